@@ -6,12 +6,12 @@
 #![tactic(auto)]
 
 use anyhow::{Context, Result, bail};
-use pgw_client_ask::column;
 use pgw_client::{
     ClientSocket, Config, DataRowDecoder, DataRowsReader, ErrorInfo, ExecuteResult, FromSql,
     FromSqlText, Listed, Parameters, PgType, PgWireClientError, PgWireClientResult, Response,
     SocketDialer, Text, Timeouts,
 };
+use pgw_client_ask::column;
 use pgw_client_calls::{DescribeTarget, PgWireClient};
 use pgw_handlers_default::{
     DefaultExtendedQueryHandler, DefaultSimpleQueryHandler, DefaultStartupHandler,

@@ -14,11 +14,23 @@ use Rattle.pgw_session.specs.Transcript.{Completed}
 use Rattle.example_dialogue.specs.Ask.{CompletesExample}
 
 -- a session of the one query, under the configuration that the text gave
-pub asked_of : (r : Result SessionReport ClientError) (old new : Tape) (text sql nonce : List ℕ) (config : Config) (parsed : Result Config ConfigError) (first : Request)
+pub asked_of : (r : Result SessionReport ClientError) (old new : Tape) (text sql nonce : List ℕ) (config : Config)
+    (parsed : Result Config ConfigError) (first : Request)
     → parsed ≡ Ok config → IsParsed text parsed → first ≡ request.Simple sql
-    → IfOk r (λ report. MovedBy old new (λ taken sent. Completed (input_with config (first ∷ []) nonce) taken sent report))
+    → IfOk r (λ report. MovedBy old new
+    (λ taken sent. Completed (input_with config (first ∷ []) nonce) taken sent report))
     → IfOk r (λ report. MovedBy old new (λ taken sent. CompletesExample text sql nonce taken sent report))
 asked_of (Ok report) old new text sql nonce config parsed first is p one done =
-    let gives : IsParsed text (Ok config) = subst (IsParsed text) is p in
-    (done.0, done.1, done.2, done.3, (config, gives, subst (λ q. Completed (input_with config (q ∷ []) nonce) done.0 done.1 report) one done.4))
+    let gives : IsParsed text (Ok config) = subst (IsParsed text) is p in (
+      done.0,
+      done.1,
+      done.2,
+      done.3,
+      (
+        config,
+        gives,
+        subst (λ q. Completed (input_with config (q ∷ []) nonce) done.0 done.1 report) one
+            done.4,
+      ),
+    )
 asked_of (Err e) old new text sql nonce config parsed first is p one done = tt

@@ -10,4 +10,5 @@ use Rattle.pgw_session.specs.Transcript.{Completed}
 -- the text gives a configuration, under which a session with this one query is completed by these bytes, with this report
 abbrev pub CompletesExample : List ℕ → List ℕ → List ℕ → List ℕ → List ℕ → SessionReport → Type 0
 CompletesExample text sql nonce taken sent report =
-    (config : Config) × HasOutcome text (Ok config) × Completed (input_with config (request.Simple sql ∷ []) nonce) taken sent report
+    (config : Config) × HasOutcome text (Ok config)
+    × Completed (input_with config (request.Simple sql ∷ []) nonce) taken sent report

@@ -9,6 +9,11 @@ use Rattle.pgw_session.specs.Input.{Input}
 
 -- Nothing was begun, and nothing put out; or a dialogue stands for all the bytes given and those put out, starved only
 -- where want of memory is the answer, and what it says of those bytes is the answer, or memory was wanting.
-pub data HoldsExample (input : Input) (limit : ℕ) (given old_out new_out : List ℕ) (result : Result SessionReport ClientError) : Type 0 where
-  unbegun : (e : ClientError) → result ≡ Err e → StartCause input e → new_out ≡ old_out → HoldsExample input limit given old_out new_out result
-  begun : (d : Dialogue) (put : List ℕ) → new_out ≡ old_out ++ put → Stands input limit d given put → (IsStarved d → result ≡ Err client.OutOfMemory) → Agrees input limit d given result ⊎ (result ≡ Err client.OutOfMemory) → HoldsExample input limit given old_out new_out result
+pub data HoldsExample (input : Input) (limit : ℕ) (given old_out new_out : List ℕ)
+    (result : Result SessionReport ClientError) : Type 0 where
+  unbegun : (e : ClientError) → result ≡ Err e → StartCause input e → new_out ≡ old_out
+      → HoldsExample input limit given old_out new_out result
+  begun : (d : Dialogue) (put : List ℕ) → new_out ≡ old_out ++ put
+      → Stands input limit d given put → (IsStarved d → result ≡ Err client.OutOfMemory)
+      → Agrees input limit d given result ⊎ (result ≡ Err client.OutOfMemory)
+      → HoldsExample input limit given old_out new_out result

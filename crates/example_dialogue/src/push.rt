@@ -31,7 +31,8 @@ pub fn over_pieces(
     ensures refused { IfSome (refused_config config.now) (λ key. RefusesKey key result) }
     // What is put out, and the answer, are those of a dialogue that was given all these bytes; so they are those of a
     // session over a link that has them.
-    ensures held { HoldsExample (input_with config.now requests.now nonce.now) limit (concat pieces.now)
+    ensures held { HoldsExample (input_with config.now requests.now nonce.now) limit
+        (concat pieces.now)
         out.old.items out.new.items result }
     // The report is that of a completed session, whose bytes were given and put out.
     ensures completed { IfOk result (λ report. (put : List ℕ)

@@ -37,7 +37,8 @@ error_reply e broken = Err e
 abbrev pub AreReplies : List Question → List Reply → List Made → Type 0
 AreReplies [] [] [] = Unit {0}
 AreReplies (q ∷ qs) (r ∷ rs) (t ∷ ts) =
-    (t.request ≡ request_of q) × IsAnswered (request_of q) (reply_answer r) t.events × AreReplies qs rs ts
+    (t.request ≡ request_of q) × IsAnswered (request_of q) (reply_answer r) t.events
+    × AreReplies qs rs ts
 AreReplies qs rs ts = ⊥
 
 -- A client that stood for some requests stands for these questions besides.
@@ -48,7 +49,8 @@ pub record AsksQuestions (config : Config) (nonce : List ℕ) (ts : List Made) (
   pub taken : List ℕ
   pub sent : List ℕ
   pub moved : MovesLine old now taken sent
-  pub stands : StandsForCalls config nonce (ts ++ made) (read ++ taken) (wrote ++ sent) after now.buffer
+  pub stands : StandsForCalls config nonce (ts ++ made) (read ++ taken) (wrote ++ sent) after
+      now.buffer
 
 -- So does one that stood for any.
 abbrev pub AddsQuestions : List Question → List Reply → Client → Line → Client → Line → Type 0
@@ -61,7 +63,8 @@ AddsQuestions qs rs before old after now =
 
 -- Why an error ended a question: it is no reply, and as the call's answer it has its reason in what was
 -- read for the question and sent, and in what the link's calls did meanwhile.
-pub record IsQuestionReason (q : Question) (before : Client) (old : Line) (after : Client) (now : Line)
+pub record IsQuestionReason (q : Question) (before : Client) (old : Line) (after : Client)
+    (now : Line)
     (broken : Bool) (e : ClientError) : Type 0 where
   pub no_reply : error_reply e broken ≡ Err e
   pub taken : List ℕ
@@ -72,7 +75,8 @@ pub record IsQuestionReason (q : Question) (before : Client) (old : Line) (after
 
 -- The error has its reason. A client that stood for some requests stands behind this question's by it: for
 -- the request too, or for a front of its segment, or for none more where it has no encoding.
-pub record FailsQuestion (q : Question) (before : Client) (old : Line) (after : Client) (now : Line)
+pub record FailsQuestion (q : Question) (before : Client) (old : Line) (after : Client)
+    (now : Line)
     (broken : Bool) (e : ClientError) : Type 0 where
   pub reason : IsQuestionReason q before old after now broken e
   pub stands : (config : Config) (nonce : List ℕ) (ts : List Made) (read wrote : List ℕ)
@@ -82,7 +86,8 @@ pub record FailsQuestion (q : Question) (before : Client) (old : Line) (after : 
       (read ++ taken) (wrote ++ sent) after now.buffer (Err e) broken
 
 -- the first of the questions were replied, and behind them the next one came to this error
-pub record StopsAtQuestion (config : Config) (nonce : List ℕ) (ts : List Made) (read wrote : List ℕ)
+pub record StopsAtQuestion (config : Config) (nonce : List ℕ) (ts : List Made)
+    (read wrote : List ℕ)
     (qs : List Question) (old now : Line) (after : Client) (broken : Bool) (e : ClientError)
     : Type 0 where
   pub asked : List Question
@@ -108,7 +113,8 @@ pub record Forgets (config : Config) (nonce : List ℕ) (ts : List Made) (read w
   pub usable : broken ≡ false
 
 -- It is one of these, whatever the client stood for.
-abbrev pub StopsQuestions : List Question → Client → Line → Client → Line → Bool → ClientError → Type 0
+abbrev pub StopsQuestions : List Question → Client → Line → Client → Line → Bool → ClientError
+    → Type 0
 StopsQuestions qs before old after now broken e =
     (config : Config) (nonce : List ℕ) (ts : List Made) (read wrote : List ℕ) →
     StandsForCalls config nonce ts read wrote before old.buffer →

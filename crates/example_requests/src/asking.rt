@@ -6,14 +6,14 @@ ghost use Rattle.example_requests.specs.declared.asking.Question.TheVariants as 
 ghost use Rattle.pgw_handlers.specs.Handling.{HasCause};
 ghost use Rattle.example_requests.specs.Asking.{AddsQuestions, FailsQuestion, StopsQuestions, error_reply};
 
-use pgw_client_laws::laws::{
-    extended_queries_are_segments, extended_queries_follow_one_another,
-    simple_queries_are_segments, simple_queries_follow_one_another,
-};
 use pgw_client::{
     DataRows, ErrorResponse, Link, Listed, PgWireClientError, PgWireClientResult, Response, Text,
 };
 use pgw_client_calls::PgWireClient;
+use pgw_client_laws::laws::{
+    extended_queries_are_segments, extended_queries_follow_one_another,
+    simple_queries_are_segments, simple_queries_follow_one_another,
+};
 use pgw_handlers_default::{DefaultExtendedQueryHandler, DefaultSimpleQueryHandler};
 use std::alloc::Global;
 

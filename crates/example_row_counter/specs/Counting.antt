@@ -25,27 +25,38 @@ with_count n s = standing (record { count = n }) s.sight
 abbrev pub count_query_bytes : List ℕ → Result (List ℕ) PgWireError
 count_query_bytes q = encoding (frontend.Query (record { query = q }))
 
-abbrev pub CounterStays : HandlerView RowCounter → HandlerView RowCounter → ReadyState (List ℕ) → Type 0
+abbrev pub CounterStays : HandlerView RowCounter → HandlerView RowCounter → ReadyState (List ℕ)
+    → Type 0
 CounterStays before after answer = (after ≡ before) × (answer ≡ Pending)
 
 -- the call went well: a query begins the count anew, a row adds one, and ReadyForQuery tells the count
-abbrev pub CountsRows : HandlerView RowCounter → SimpleCall → HandlerView RowCounter → ReadyState (List ℕ) → Type 0
-CountsRows before (simple_query q) after answer = (after.handler.count ≡ 0) × Sent (count_query_bytes q) before.sight after.sight × (answer ≡ Pending)
+abbrev pub CountsRows : HandlerView RowCounter → SimpleCall → HandlerView RowCounter
+    → ReadyState (List ℕ) → Type 0
+CountsRows before (simple_query q) after answer =
+    (after.handler.count ≡ 0) × Sent (count_query_bytes q) before.sight after.sight
+    × (answer ≡ Pending)
 CountsRows before (on_row_description m) after answer = CounterStays before after answer
-CountsRows before (on_data_row m) after answer = (after ≡ with_count (next_row_count before.handler.count) before) × (answer ≡ Pending)
+CountsRows before (on_data_row m) after answer =
+    (after ≡ with_count (next_row_count before.handler.count) before) × (answer ≡ Pending)
 CountsRows before (on_command_complete m) after answer = CounterStays before after answer
 CountsRows before (on_empty_query m) after answer = CounterStays before after answer
-CountsRows before (on_ready_for_query m) after answer = (after ≡ before) × (answer ≡ Ready (before.handler.count ∷ []))
+CountsRows before (on_ready_for_query m) after answer =
+    (after ≡ before) × (answer ≡ Ready (before.handler.count ∷ []))
 CountsRows before call after answer = ⊥
 
 -- the call failed: the query could not be sent, or memory ran out
-abbrev pub FailsRowCount : HandlerView RowCounter → SimpleCall → HandlerView RowCounter → ClientError → Type 0
-FailsRowCount before (simple_query q) after e = (after.handler.count ≡ 0) × (NotSent (count_query_bytes q) before.sight after.sight e ⊎ ((after.sight ≡ before.sight) × (e ≡ OutOfMemory)))
+abbrev pub FailsRowCount : HandlerView RowCounter → SimpleCall → HandlerView RowCounter
+    → ClientError → Type 0
+FailsRowCount before (simple_query q) after e =
+    (after.handler.count ≡ 0)
+    × (NotSent (count_query_bytes q) before.sight after.sight e ⊎
+    ((after.sight ≡ before.sight) × (e ≡ OutOfMemory)))
 FailsRowCount before (on_ready_for_query m) after e = (after ≡ before) × (e ≡ OutOfMemory)
 FailsRowCount before call after e = ⊥
 
 -- what it does; with a parameter, a notice and a notification it does as the trait's own bodies
-abbrev pub CountMeans : HandlerView RowCounter → SimpleCall → HandlerView RowCounter → CallAnswer (List ℕ) → Type 0
+abbrev pub CountMeans : HandlerView RowCounter → SimpleCall → HandlerView RowCounter
+    → CallAnswer (List ℕ) → Type 0
 CountMeans before (on_parameter_status m) after answer = KeepsParameter m before after answer
 CountMeans before (on_notice m) after answer = NothingDone before after answer
 CountMeans before (on_notification m) after answer = HandlerMisplaces m before after answer
@@ -54,15 +65,19 @@ CountMeans before call after (Err e) = FailsRowCount before call after e
 
 -- ---- the trait's own bodies
 
-abbrev pub keeps_in_counter : (before after : HandlerView RowCounter) → (m : ParameterStatus) → (answer : CallAnswer (List ℕ)) → KeepsParameter m before after answer → CountMeans before (on_parameter_status m) after answer
+abbrev pub keeps_in_counter : (before after : HandlerView RowCounter) → (m : ParameterStatus)
+    → (answer : CallAnswer (List ℕ)) → KeepsParameter m before after answer
+    → CountMeans before (on_parameter_status m) after answer
 keeps_in_counter before after m answer kept = kept
 
-abbrev pub counter_passes_notices : (before after : HandlerView RowCounter) → (m : NoticeResponse) →
+abbrev pub counter_passes_notices : (before after : HandlerView RowCounter)
+    → (m : NoticeResponse) →
     (answer : CallAnswer (List ℕ)) → NothingDone before after answer →
     CountMeans before (on_notice m) after answer
 counter_passes_notices before after m answer passed = passed
 
-abbrev pub counts_no_notifications : (before after : HandlerView RowCounter) → (m : NotificationResponse) →
+abbrev pub counts_no_notifications : (before after : HandlerView RowCounter)
+    → (m : NotificationResponse) →
     (answer : CallAnswer (List ℕ)) → HandlerMisplaces m before after answer →
     CountMeans before (on_notification m) after answer
 counts_no_notifications before after m answer refused = refused

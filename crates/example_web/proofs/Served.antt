@@ -13,10 +13,12 @@ module _ {F A B : Type 0} (turn : F → A → B → F → Type 0) where
     pub turned : turn was item y after
 
   turned_to : (q : F) (y : B) (next : Option A)
-      → MatchOption next (◌≡◌ {A = Option B} (Some y) None) (λ x. (t : F) × IsSomeAnd (Some y) (λ z. turn q x z t))
+      → MatchOption next (◌≡◌ {A = Option B} (Some y) None)
+      (λ x. (t : F) × IsSomeAnd (Some y) (λ z. turn q x z t))
       → IsTurned y
   turned_to q y None none = absurd (none-some y (sym none))
   turned_to q y (Some x) came = record { was = q; item = x; after = came.0; turned = came.1 }
 
-  pub IsTurned-Maps : (source : Runs A) (f : F) (ys : List B) (y : B) → Maps turn source f ys (Some y) → IsTurned y
+  pub IsTurned-Maps : (source : Runs A) (f : F) (ys : List B) (y : B) → Maps turn source f ys (Some y)
+      → IsTurned y
   IsTurned-Maps source f ys y m = turned_to m.state y m.next m.ends

@@ -2,20 +2,20 @@
 
 use crate::clock::SystemClock;
 use crate::surroundings::{NoPlaces, places};
-use pgw_prog_answers::faults::told_of_error;
 use pgw_backend::client_error::PgWireClientError;
-use pgw_prog_check::check::run_check;
-use pgw_prog_words::help::help_of;
-use pgw_prog_words::options::Options;
-use pgw_prog_words::query::{CheckWords, QueryWords, check_words, query_words};
+use pgw_client_places::notes::LoginNotes;
+use pgw_client_places::places::Place;
 use pgw_config::config::Config;
 use pgw_link::socket_dialer::{SocketDialer, Timeouts};
 use pgw_link::standard::StdSink;
-use pgw_prog_output::printer::RowFormat;
-use pgw_client_places::notes::LoginNotes;
-use pgw_client_places::places::Place;
 use pgw_prog::start::{start_with, words_of};
+use pgw_prog_answers::faults::told_of_error;
+use pgw_prog_check::check::run_check;
+use pgw_prog_output::printer::RowFormat;
 use pgw_prog_query::query::run_query;
+use pgw_prog_words::help::help_of;
+use pgw_prog_words::options::Options;
+use pgw_prog_words::query::{CheckWords, QueryWords, check_words, query_words};
 use pgw_types::listed::Listed;
 use pgw_types::memory::OutOfMemory;
 use rand::RngExt;

@@ -39,15 +39,20 @@ same_state (Err client.Broken) = refl
 same_state (Err client.OutOfMemory) = refl
 
 -- refused, or starved
-pub broken_of : (s : HeldState) → (s ≡ held.Refused) ⊎ (s ≡ held.Starved) → (state_of s ≡ state.Refused) ⊎ (state_of s ≡ state.Starved)
+pub broken_of : (s : HeldState) → (s ≡ held.Refused) ⊎ (s ≡ held.Starved)
+    → (state_of s ≡ state.Refused) ⊎ (state_of s ≡ state.Starved)
 broken_of s (inl is) = inl (ap state_of is)
 broken_of s (inr is) = inr (ap state_of is)
 
 -- what opened a session begins it
-pub held_starts : (input : Input) (limit : ℕ) (h : Held) (old new : List ℕ) → PutsStartup input old new (Ok h.notes) → input_at (dialogue_of h) ≡ input → h.inbox ≡ [] → h.room ≡ limit → h.state ≡ held.Going
+pub held_starts : (input : Input) (limit : ℕ) (h : Held) (old new : List ℕ)
+    → PutsStartup input old new (Ok h.notes) → input_at (dialogue_of h) ≡ input → h.inbox ≡ [] → h.room ≡ limit
+    → h.state ≡ held.Going
     → HeldStarts input limit old new (Ok h)
-held_starts input limit h old new opened made empty room going = starts input limit (dialogue_of h) opened.0 old new opened.1 opened.2 made empty room (ap state_of going)
+held_starts input limit h old new opened made empty room going =
+    starts input limit (dialogue_of h) opened.0 old new opened.1 opened.2 made empty room (ap state_of going)
 
 -- where a dialogue is behind an answer
-pub is_behind_answer : (d : Dialogue) (fed : Result Bool ClientError) (answer : Result DialoguePhase ClientError) → d.state ≡ state_behind answer → answer ≡ answer_behind fed d.room (d.notes).closed → IsBehind d answer
+pub is_behind_answer : (d : Dialogue) (fed : Result Bool ClientError) (answer : Result DialoguePhase ClientError)
+    → d.state ≡ state_behind answer → answer ≡ answer_behind fed d.room (d.notes).closed → IsBehind d answer
 is_behind_answer d fed answer to is = subst (IsBehind d) (sym is) (is_behind d fed (to ∙ ap state_behind is))

@@ -13,11 +13,14 @@ use Rattle.pgw_wire.specs.Reading.{name_of}
 -- a request that was made is the last one now, or memory was wanting
 abbrev pub AddsRequest : Session → Session → Result Request OutOfMemory → ℕ → Type 0
 AddsRequest old new (Ok request) result =
-    ((result ≡ 0) × (new ≡ record old { requests = old.requests ++ request ∷ [] })) ⊎ ((result ≡ out_of_memory) × (new ≡ old))
+    ((result ≡ 0) × (new ≡ record old { requests = old.requests ++ request ∷ [] }))
+    ⊎ ((result ≡ out_of_memory) × (new ≡ old))
 AddsRequest old new (Err e) result = (result ≡ out_of_memory) × (new ≡ old)
 
 abbrev pub AsksRows : Session → Session → List ℕ → ℕ → ℕ → Type 0
-AsksRows old new portal rows result = AsksWithin old new (2147483647 < rows) portal (request.Execute (name_of portal) (pos rows)) result
+AsksRows old new portal rows result =
+    AsksWithin old new (2147483647 < rows) portal (request.Execute (name_of portal) (pos rows))
+    result
 
 -- a statement or a portal
 abbrev pub numbered_target : ℕ → Option (List ℕ) → Target
@@ -26,4 +29,5 @@ numbered_target (suc n) name = target.Portal name
 
 abbrev pub AddsParameter : Session → Session → Option (List ℕ) → ℕ → Type 0
 AddsParameter old new value result =
-    ((result ≡ 0) × (new ≡ record old { parameters = old.parameters ++ value ∷ [] })) ⊎ ((result ≡ out_of_memory) × (new ≡ old))
+    ((result ≡ 0) × (new ≡ record old { parameters = old.parameters ++ value ∷ [] }))
+    ⊎ ((result ≡ out_of_memory) × (new ≡ old))

@@ -18,7 +18,8 @@ session_at null_ptr s = ftrue
 
 -- a session lies there of which this holds; or the handle is null, and that holds
 abbrev pub session_or_null : Ptr → (Session → Type 0) → Type 0 → Fml
-session_or_null (block_ptr b o) Is Null = fex Session (λ s. fsep (session_at (block_ptr b o) s) (fex (Is s) (λ _. ftrue)))
+session_or_null (block_ptr b o) Is Null =
+    fex Session (λ s. fsep (session_at (block_ptr b o) s) (fex (Is s) (λ _. ftrue)))
 session_or_null null_ptr Is Null = fex Null (λ _. ftrue)
 
 -- room again

@@ -13,7 +13,8 @@ use Rattle.hothummei_c.specs.declared.held.HeldState.TheVariants as held
 
 -- the startup message is put out; or nothing is, and the error has its cause
 abbrev pub PutsStartup : Input → List ℕ → List ℕ → Result Notes ClientError → Type 0
-PutsStartup input old new (Ok notes) = (opening : List ℕ) × StartsRun input opening (Ok notes) × (new ≡ old ++ opening)
+PutsStartup input old new (Ok notes) =
+    (opening : List ℕ) × StartsRun input opening (Ok notes) × (new ≡ old ++ opening)
 PutsStartup input old new (Err e) = (new ≡ old) × StartCause input e
 
 abbrev pub held_behind : Result DialoguePhase ClientError → HeldState

@@ -9,7 +9,8 @@ use Rattle.hothummei_c.specs.declared.places.RowPlace.{RowPlace}
 -- the row lies there in this run
 abbrev pub LiesIn : Option Run → ℕ → DataRow → Type 0
 LiesIn None at row = ⊥
-LiesIn (Some (run.Messages count bytes)) at row = HasHead (drop at bytes) × (row_in (drop at bytes) ≡ row)
+LiesIn (Some (run.Messages count bytes)) at row =
+    HasHead (drop at bytes) × (row_in (drop at bytes) ≡ row)
 LiesIn (Some (run.Row alone)) at row = alone ≡ row
 
 abbrev pub LocatesRow : List Run → RowPlace → DataRow → Type 0
@@ -24,12 +25,14 @@ abbrev pub LocatesAll : List Run → List RowPlace → List DataRow → Type 0
 LocatesAll runs [] [] = Unit {0}
 LocatesAll runs [] (row ∷ rows) = ⊥
 LocatesAll runs (place ∷ places) [] = ⊥
-LocatesAll runs (place ∷ places) (row ∷ rows) = LocatesRow runs place row × LocatesAll runs places rows
+LocatesAll runs (place ∷ places) (row ∷ rows) =
+    LocatesRow runs place row × LocatesAll runs places rows
 
 -- the places of so many rows from an offset on, in a run with these bytes
 abbrev pub messages_from : ℕ → ℕ → ℕ → List ℕ → List RowPlace
 messages_from run zero at bytes = []
-messages_from run (suc n) at bytes = record { run = run; at = at } ∷ messages_from run n (at + row_end (drop at bytes)) bytes
+messages_from run (suc n) at bytes =
+    record { run = run; at = at } ∷ messages_from run n (at + row_end (drop at bytes)) bytes
 
 abbrev pub AddsMessages : ℕ → ℕ → List ℕ → List RowPlace → List RowPlace → Type 0
 AddsMessages run count bytes old new = new ≡ old ++ messages_from run count 0 bytes
@@ -39,4 +42,6 @@ rows_in_run None = []
 rows_in_run (Some run) = run_rows run
 
 abbrev pub AddsRun : List Run → ℕ → List RowPlace → List RowPlace → Type 0
-AddsRun runs run old new = (more : List RowPlace) × (new ≡ old ++ more) × LocatesAll runs more (rows_in_run (slice_get runs run))
+AddsRun runs run old new =
+    (more : List RowPlace) × (new ≡ old ++ more)
+    × LocatesAll runs more (rows_in_run (slice_get runs run))

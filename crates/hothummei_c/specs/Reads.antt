@@ -129,13 +129,18 @@ FindsPair old new index out result = (new ≡ old) × PairOf old.report index ou
 -- ---- answers
 
 abbrev pub TellsAnswer : AnswerInfo → Told → Type 0
-TellsAnswer out told = (out.kind ≡ kind_number told.kind) × (out.results ≡ length told.results) × (out.types ≡ length told.types)
+TellsAnswer out told =
+    (out.kind ≡ kind_number told.kind) × (out.results ≡ length told.results)
+    × (out.types ≡ length told.types)
 
 abbrev pub FindsAnswer : Session → Session → ℕ → AnswerInfo → ℕ → Type 0
-FindsAnswer old new index out result = (new ≡ old) × AnswersIndex (answer_in old index) (TellsAnswer out) result
+FindsAnswer old new index out result =
+    (new ≡ old) × AnswersIndex (answer_in old index) (TellsAnswer out) result
 
 abbrev pub FindsType : Session → Session → ℕ → ℕ → TypeInfo → ℕ → Type 0
-FindsType old new answer index out result = (new ≡ old) × AnswersIndex (type_at (answer_in old answer) index) (λ oid. out.oid ≡ oid) result
+FindsType old new answer index out result =
+    (new ≡ old)
+    × AnswersIndex (type_at (answer_in old answer) index) (λ oid. out.oid ≡ oid) result
 
 -- ---- the fields of errors
 
@@ -154,7 +159,8 @@ error_field_at (Some e) code = first_field code e.fields
 
 abbrev pub PutsFieldOf : Option ErrorResponse → ℕ → Value → ℕ → Type 0
 PutsFieldOf None code out result = result ≡ out_of_place
-PutsFieldOf (Some e) code out result = AnswersIndex (first_field code e.fields) (λ text. HoldsCBytes text out) result
+PutsFieldOf (Some e) code out result =
+    AnswersIndex (first_field code e.fields) (λ text. HoldsCBytes text out) result
 
 abbrev pub error_now : Option (Bor ErrorResponse) → Option ErrorResponse
 error_now None = None
@@ -168,7 +174,8 @@ FieldOf None code out result = result ≡ no_such_index
 FieldOf (Some told) code out result = PutsFieldOf told.error code out result
 
 abbrev pub FindsField : Session → Session → ℕ → ℕ → Value → ℕ → Type 0
-FindsField old new answer code out result = (new ≡ old) × FieldOf (answer_in old answer) code out result
+FindsField old new answer code out result =
+    (new ≡ old) × FieldOf (answer_in old answer) code out result
 
 abbrev pub remote_of : Option ClientError → Option ErrorResponse
 remote_of (Some (client.RemoteError e)) = Some e
@@ -176,7 +183,8 @@ remote_of fault = None
 
 -- of the error that the session failed by
 abbrev pub FindsFault : Session → Session → ℕ → Value → ℕ → Type 0
-FindsFault old new code out result = (new ≡ old) × PutsFieldOf (remote_of old.fault) code out result
+FindsFault old new code out result =
+    (new ≡ old) × PutsFieldOf (remote_of old.fault) code out result
 
 -- ---- results
 
@@ -201,7 +209,9 @@ pub record TellsResult (found : CommandResult) (out : ResultInfo) : Type 0 where
   pub count_is : CountsAs (rows_of_tag found.tag) out.count out.counted
 
 abbrev pub FindsResult : Session → Session → ℕ → ℕ → ResultInfo → ℕ → Type 0
-FindsResult old new answer index out result = (new ≡ old) × AnswersIndex (result_in old answer index) (λ found. TellsResult found out) result
+FindsResult old new answer index out result =
+    (new ≡ old)
+    × AnswersIndex (result_in old answer index) (λ found. TellsResult found out) result
 
 pub record TellsColumn (field : FieldInfo) (out : ColumnInfo) : Type 0 where
   pub name_is : HoldsCBytes field.name out.name
@@ -209,15 +219,20 @@ pub record TellsColumn (field : FieldInfo) (out : ColumnInfo) : Type 0 where
   pub format_is : out.format ≡ c_format field.format
 
 abbrev pub FindsColumn : Session → Session → ℕ → ℕ → ℕ → ColumnInfo → ℕ → Type 0
-FindsColumn old new answer number index out result = (new ≡ old) × AnswersIndex (column_at (result_in old answer number) index) (λ field. TellsColumn field out) result
+FindsColumn old new answer number index out result =
+    (new ≡ old)
+    × AnswersIndex (column_at (result_in old answer number) index)
+    (λ field. TellsColumn field out) result
 
 -- ---- rows
 
-abbrev pub led : Option (List ℕ) → Option (List (Option (List ℕ))) → Option (List (Option (List ℕ)))
+abbrev pub led : Option (List ℕ) → Option (List (Option (List ℕ)))
+    → Option (List (Option (List ℕ)))
 led value None = None
 led value (Some values) = Some (value ∷ values)
 
-abbrev pub values_by_cut : Option (Option (List ℕ) × List ℕ) → (List ℕ → Option (List (Option (List ℕ)))) → Option (List (Option (List ℕ)))
+abbrev pub values_by_cut : Option (Option (List ℕ) × List ℕ)
+    → (List ℕ → Option (List (Option (List ℕ)))) → Option (List (Option (List ℕ)))
 values_by_cut None more = None
 values_by_cut (Some cut) more = led cut.0 (more cut.1)
 
@@ -238,8 +253,12 @@ Pushes old new shown next (Err code) = code ≡ out_of_memory
 
 -- one value more is shown, and the next begins there; or the row ends within it, or memory was wanting
 abbrev pub PutsNext : List Value → List Value → List ℕ → ℕ → Result ℕ ℕ → Type 0
-PutsNext old new row at (Ok next) = (value : Option (List ℕ)) × (shown : Value) × (value_at (drop at row) ≡ Some (value, drop next row)) × (next ≤ length row) × (new ≡ old ++ shown ∷ []) × TellsValue value shown
-PutsNext old new row at (Err code) = ((code ≡ value_missing) × (value_at (drop at row) ≡ None)) ⊎ (code ≡ out_of_memory)
+PutsNext old new row at (Ok next) =
+    (value : Option (List ℕ)) × (shown : Value)
+    × (value_at (drop at row) ≡ Some (value, drop next row)) × (next ≤ length row)
+    × (new ≡ old ++ shown ∷ []) × TellsValue value shown
+PutsNext old new row at (Err code) =
+    ((code ≡ value_missing) × (value_at (drop at row) ≡ None)) ⊎ (code ≡ out_of_memory)
 
 -- the values are shown, each in its place; or the row does not hold them, or memory was wanting
 abbrev pub Shown : Option (List (Option (List ℕ))) → List Value → ℕ → Type 0
@@ -251,8 +270,12 @@ PutsValues values count row result = Shown (values_in count row) values result
 
 abbrev ShownRow : Option DataRow → Session → RowInfo → ℕ → Type 0
 ShownRow None new out result = result ≡ no_such_index
-ShownRow (Some row) new out result = Shown (values_in (row_value_count row.field_count) row.payload) new.values.items result × (out.count ≡ length new.values.items)
+ShownRow (Some row) new out result =
+    Shown (values_in (row_value_count row.field_count) row.payload) new.values.items result
+    × (out.count ≡ length new.values.items)
 
 -- the row's values stand in the session, and nothing else of it changes
 abbrev pub FindsRow : Session → Session → ℕ → ℕ → ℕ → RowInfo → ℕ → Type 0
-FindsRow old new answer number index out result = (new ≡ record old { values = new.values }) × ShownRow (result_row_at (result_in old answer number) index) new out result
+FindsRow old new answer number index out result =
+    (new ≡ record old { values = new.values })
+    × ShownRow (result_row_at (result_in old answer number) index) new out result

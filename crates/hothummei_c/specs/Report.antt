@@ -22,29 +22,44 @@ abbrev pub rows_result : List FieldInfo → List DataRow → CommandResult
 rows_result fields rows = record { kind = shape.Rows; tag = None; fields = fields; rows = rows }
 
 abbrev pub command_result : Response → CommandResult
-command_result response.EmptyQuery = record { kind = shape.Nothing; tag = None; fields = []; rows = [] }
-command_result (response.Query tag fields rows) = record { kind = shape.Rows; tag = Some tag; fields = fields; rows = rows }
-command_result (response.Execution tag) = record { kind = shape.Command; tag = Some tag; fields = []; rows = [] }
+command_result response.EmptyQuery =
+    record { kind = shape.Nothing; tag = None; fields = []; rows = [] }
+command_result (response.Query tag fields rows) =
+    record { kind = shape.Rows; tag = Some tag; fields = fields; rows = rows }
+command_result (response.Execution tag) =
+    record { kind = shape.Command; tag = Some tag; fields = []; rows = [] }
 
 abbrev pub plain_told : AnswerKind → Told
 plain_told kind = record { kind = kind; results = []; types = []; error = None }
 
 abbrev pub told_with : AnswerKind → List PgType → CommandResult → Told
-told_with kind types result = record { kind = kind; results = result ∷ []; types = types; error = None }
+told_with kind types result =
+    record { kind = kind; results = result ∷ []; types = types; error = None }
 
 abbrev pub told_described : DescribeResponse → Told
 told_described told = told_with kind.Described told.param_types (rows_result told.fields [])
 
 abbrev pub told_of : Answer → Told
-told_of (answer.Responses responses) = record { kind = kind.Responses; results = map command_result responses; types = []; error = None }
-told_of (answer.Prepared told) = record { kind = kind.Prepared; results = []; types = told.param_types; error = None }
+told_of (answer.Responses responses) =
+    record {
+      kind = kind.Responses;
+      results = map command_result responses;
+      types = [];
+      error =
+          None;
+    }
+told_of (answer.Prepared told) =
+    record { kind = kind.Prepared; results = []; types = told.param_types; error = None }
 told_of answer.Bound = plain_told kind.Bound
-told_of (answer.Executed (execute.Complete rows)) = told_with kind.Complete [] (rows_result [] rows)
-told_of (answer.Executed (execute.Suspended rows)) = told_with kind.Suspended [] (rows_result [] rows)
+told_of (answer.Executed (execute.Complete rows)) =
+    told_with kind.Complete [] (rows_result [] rows)
+told_of (answer.Executed (execute.Suspended rows)) =
+    told_with kind.Suspended [] (rows_result [] rows)
 told_of (answer.Described told) = told_described told
 told_of answer.Closed = plain_told kind.Closed
 told_of (answer.Rows rows) = told_with kind.Rows [] (rows_result [] rows)
-told_of (answer.Remote e) = record { kind = kind.Remote; results = []; types = []; error = Some e }
+told_of (answer.Remote e) =
+    record { kind = kind.Remote; results = []; types = []; error = Some e }
 
 abbrev pub kept_report : SessionReport → Report
 kept_report report = record {

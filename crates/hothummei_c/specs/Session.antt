@@ -35,7 +35,9 @@ pub record IsNewSession (s : Session) : Type 0 where
 
 -- it gave up by this error, and says so by its number
 abbrev pub HandleFails : Session → Session → ClientError → ℕ → Type 0
-HandleFails old new e result = (result ≡ code_of e) × (new ≡ record old { phase = phase.Failed; fault = Some e; sentence = new.sentence })
+HandleFails old new e result =
+    (result ≡ code_of e)
+    × (new ≡ record old { phase = phase.Failed; fault = Some e; sentence = new.sentence })
 
 -- ---- what it is made for
 
@@ -59,7 +61,8 @@ ConnectsInC old new text nonce result =
 
 -- why no request is added: it is no time for it, or a text is bad
 abbrev pub AddsNoRequest : Session → (ℕ → Type 0) → ℕ → Type 0
-AddsNoRequest old Bad result = ((result ≡ out_of_place) × (old.phase ≡ phase.Asking → ⊥)) ⊎ Bad result
+AddsNoRequest old Bad result =
+    ((result ≡ out_of_place) × (old.phase ≡ phase.Asking → ⊥)) ⊎ Bad result
 
 -- The request is the last one now; or none was added, and why, and nothing changed.
 abbrev pub HandleAsks : Session → Session → (ℕ → Type 0) → Request → ℕ → Type 0
@@ -101,7 +104,8 @@ handed_on old new = record old { config = new.config; requests = new.requests; o
 abbrev pub StartsAs : Session → Session → ℕ → Result Dialogue ClientError → Type 0
 StartsAs old new limit result =
     IfSome (refused_config old.config) (λ key. RefusesKey key result)
-    × Starts (input_with old.config old.requests old.nonce) limit old.out.items new.out.items result
+    × Starts (input_with old.config old.requests old.nonce) limit old.out.items new.out.items
+    result
 
 -- A dialogue begins that is made for all this, and what it puts out is behind what was to be sent; or nothing is, and
 -- the session failed by an error that has its cause.
@@ -109,7 +113,8 @@ abbrev pub Began : Session → Session → ℕ → ℕ → Type 0
 Began old new limit result =
     ((result ≡ 0) × (h : Held) × StartsAs old new limit (Ok (dialogue_of h))
     × (new ≡ record (handed_on old new) { phase = phase.Waiting; held = Some h }))
-    ⊎ ((e : ClientError) × StartsAs old new limit (Err e) × HandleFails (handed_on old new) new e result)
+    ⊎ ((e : ClientError) × StartsAs old new limit (Err e) × HandleFails (handed_on old new) new e
+    result)
 
 -- it was time for it, and a byte may be taken; or not
 abbrev pub HandleBegins : Session → Session → ℕ → ℕ → Type 0
@@ -124,7 +129,10 @@ is_over old new = record old { held = None; out = new.out }
 -- the report is that of the dialogue, or memory was wanting
 abbrev pub FinishesReport : Session → Session → Held → ℕ → Type 0
 FinishesReport old new held result =
-    ((result ≡ 0) × (new ≡ record old { phase = phase.Done; report = Some (kept_report (report_at (dialogue_of held).notes)) }))
+    ((result ≡ 0) × (new ≡ record old {
+      phase = phase.Done;
+      report = Some (kept_report (report_at (dialogue_of held).notes));
+    }))
     ⊎ ((result ≡ out_of_memory) × (new ≡ record old { phase = phase.Failed }))
 
 -- What a session is behind an answer of its dialogue: the dialogue goes on; or it is over, with its report (where memory was

@@ -64,7 +64,8 @@ pub unsafe extern "C" fn hothummei_c_connection(
 ) -> u32
     ghost of: { Session }
     requires* { sem 𝓛 (session_at handle of) }
-    ensures* { sem 𝓛 (session_or_null handle (λ s. ConnectsInC of s text.now nonce.now result) (result ≡ 1)) }
+    ensures* { sem 𝓛 (session_or_null handle (λ s. ConnectsInC of s text.now nonce.now result)
+        (result ≡ 1)) }
 {
     if handle.is_null() {
         return NULL_POINTER;
@@ -77,7 +78,8 @@ pub unsafe extern "C" fn hothummei_c_connection(
 pub unsafe extern "C" fn hothummei_c_simple(handle: *mut Handle, sql: &[u8]) -> u32
     ghost of: { Session }
     requires* { sem 𝓛 (session_at handle of) }
-    ensures* { sem 𝓛 (session_or_null handle (λ s. HandleAsks of s (RefusesText sql.now) (request.Simple sql.now)
+    ensures* { sem 𝓛 (session_or_null handle
+        (λ s. HandleAsks of s (RefusesText sql.now) (request.Simple sql.now)
         result) (result ≡ 1)) }
 {
     if handle.is_null() {
@@ -109,7 +111,8 @@ pub unsafe extern "C" fn hothummei_c_bind(
 ) -> u32
     ghost of: { Session }
     requires* { sem 𝓛 (session_at handle of) }
-    ensures* { sem 𝓛 (session_or_null handle (λ s. AsksWith of s (UnreadOne portal.now statement.now)
+    ensures* { sem 𝓛 (session_or_null handle
+        (λ s. AsksWith of s (UnreadOne portal.now statement.now)
         (request.Bind (name_of portal.now) (name_of statement.now) of.parameters []) result)
         (result ≡ 1)) }
 {
@@ -124,7 +127,8 @@ pub unsafe extern "C" fn hothummei_c_bind(
 pub unsafe extern "C" fn hothummei_c_execute(handle: *mut Handle, portal: &[u8], rows: u32) -> u32
     ghost of: { Session }
     requires* { sem 𝓛 (session_at handle of) }
-    ensures* { sem 𝓛 (session_or_null handle (λ s. AsksRows of s portal.now rows result) (result ≡ 1)) }
+    ensures* { sem 𝓛 (session_or_null handle (λ s. AsksRows of s portal.now rows result)
+        (result ≡ 1)) }
 {
     if handle.is_null() {
         return NULL_POINTER;
@@ -165,7 +169,8 @@ pub unsafe extern "C" fn hothummei_c_close(handle: *mut Handle, kind: u32, name:
 pub unsafe extern "C" fn hothummei_c_query(handle: *mut Handle, sql: &[u8]) -> u32
     ghost of: { Session }
     requires* { sem 𝓛 (session_at handle of) }
-    ensures* { sem 𝓛 (session_or_null handle (λ s. AsksWith of s (RefusesText sql.now) (request.Query sql.now []
+    ensures* { sem 𝓛 (session_or_null handle
+        (λ s. AsksWith of s (RefusesText sql.now) (request.Query sql.now []
         of.parameters) result) (result ≡ 1)) }
 {
     if handle.is_null() {
@@ -179,7 +184,8 @@ pub unsafe extern "C" fn hothummei_c_query(handle: *mut Handle, sql: &[u8]) -> u
 pub unsafe extern "C" fn hothummei_c_parameter(handle: *mut Handle, value: &[u8]) -> u32
     ghost of: { Session }
     requires* { sem 𝓛 (session_at handle of) }
-    ensures* { sem 𝓛 (session_or_null handle (λ s. AddsParameter of s (Some value.now) result) (result ≡
+    ensures* { sem 𝓛 (session_or_null handle (λ s. AddsParameter of s (Some value.now) result)
+        (result ≡
         1)) }
 {
     if handle.is_null() {
@@ -232,7 +238,8 @@ pub unsafe extern "C" fn hothummei_c_take(handle: *mut Handle, piece: &[u8]) -> 
 pub unsafe extern "C" fn hothummei_c_pending(handle: *mut Handle, out: &mut Value) -> u32
     ghost of: { Session }
     requires* { sem 𝓛 (session_at handle of) }
-    ensures* { sem 𝓛 (session_or_null handle (λ s. Shows of s of.out.items out.new result) (result ≡ 1)) }
+    ensures* { sem 𝓛 (session_or_null handle (λ s. Shows of s of.out.items out.new result)
+        (result ≡ 1)) }
 {
     if handle.is_null() {
         return NULL_POINTER;
@@ -258,7 +265,8 @@ pub unsafe extern "C" fn hothummei_c_sent(handle: *mut Handle, count: usize) -> 
 pub unsafe extern "C" fn hothummei_c_phase(handle: *mut Handle) -> u32
     ghost of: { Session }
     requires* { sem 𝓛 (session_at handle of) }
-    ensures* { sem 𝓛 (session_or_null handle (λ s. (result ≡ phase_number of.phase) × (s ≡ of)) (result ≡
+    ensures* { sem 𝓛 (session_or_null handle (λ s. (result ≡ phase_number of.phase) × (s ≡ of))
+        (result ≡
         1)) }
 {
     if handle.is_null() {
@@ -285,7 +293,8 @@ pub unsafe extern "C" fn hothummei_c_at_end(handle: *mut Handle) -> u32
 pub unsafe extern "C" fn hothummei_c_sentence(handle: *mut Handle, out: &mut Value) -> u32
     ghost of: { Session }
     requires* { sem 𝓛 (session_at handle of) }
-    ensures* { sem 𝓛 (session_or_null handle (λ s. Shows of s (string_bytes of.sentence) out.new result)
+    ensures* { sem 𝓛 (session_or_null handle
+        (λ s. Shows of s (string_bytes of.sentence) out.new result)
         (result ≡ 1)) }
 {
     if handle.is_null() {
@@ -316,7 +325,8 @@ pub unsafe extern "C" fn hothummei_c_server_parameter(
 ) -> u32
     ghost of: { Session }
     requires* { sem 𝓛 (session_at handle of) }
-    ensures* { sem 𝓛 (session_or_null handle (λ s. FindsPair of s index out.new result) (result ≡ 1)) }
+    ensures* { sem 𝓛 (session_or_null handle (λ s. FindsPair of s index out.new result)
+        (result ≡ 1)) }
 {
     if handle.is_null() {
         return NULL_POINTER;
@@ -333,7 +343,8 @@ pub unsafe extern "C" fn hothummei_c_answer(
 ) -> u32
     ghost of: { Session }
     requires* { sem 𝓛 (session_at handle of) }
-    ensures* { sem 𝓛 (session_or_null handle (λ s. FindsAnswer of s index out.new result) (result ≡ 1)) }
+    ensures* { sem 𝓛 (session_or_null handle (λ s. FindsAnswer of s index out.new result)
+        (result ≡ 1)) }
 {
     if handle.is_null() {
         return NULL_POINTER;
@@ -351,7 +362,8 @@ pub unsafe extern "C" fn hothummei_c_parameter_type(
 ) -> u32
     ghost of: { Session }
     requires* { sem 𝓛 (session_at handle of) }
-    ensures* { sem 𝓛 (session_or_null handle (λ s. FindsType of s answer index out.new result) (result ≡
+    ensures* { sem 𝓛 (session_or_null handle (λ s. FindsType of s answer index out.new result)
+        (result ≡
         1)) }
 {
     if handle.is_null() {
@@ -369,7 +381,8 @@ pub unsafe extern "C" fn hothummei_c_error_field(
 ) -> u32
     ghost of: { Session }
     requires* { sem 𝓛 (session_at handle of) }
-    ensures* { sem 𝓛 (session_or_null handle (λ s. FindsFault of s code out.new result) (result ≡ 1)) }
+    ensures* { sem 𝓛 (session_or_null handle (λ s. FindsFault of s code out.new result)
+        (result ≡ 1)) }
 {
     if handle.is_null() {
         return NULL_POINTER;
@@ -387,7 +400,8 @@ pub unsafe extern "C" fn hothummei_c_answer_field(
 ) -> u32
     ghost of: { Session }
     requires* { sem 𝓛 (session_at handle of) }
-    ensures* { sem 𝓛 (session_or_null handle (λ s. FindsField of s answer code out.new result) (result ≡
+    ensures* { sem 𝓛 (session_or_null handle (λ s. FindsField of s answer code out.new result)
+        (result ≡
         1)) }
 {
     if handle.is_null() {
@@ -406,7 +420,8 @@ pub unsafe extern "C" fn hothummei_c_result(
 ) -> u32
     ghost of: { Session }
     requires* { sem 𝓛 (session_at handle of) }
-    ensures* { sem 𝓛 (session_or_null handle (λ s. FindsResult of s answer index out.new result) (result
+    ensures* { sem 𝓛 (session_or_null handle (λ s. FindsResult of s answer index out.new result)
+        (result
         ≡ 1)) }
 {
     if handle.is_null() {
@@ -426,7 +441,8 @@ pub unsafe extern "C" fn hothummei_c_column(
 ) -> u32
     ghost of: { Session }
     requires* { sem 𝓛 (session_at handle of) }
-    ensures* { sem 𝓛 (session_or_null handle (λ s. FindsColumn of s answer number index out.new result)
+    ensures* { sem 𝓛 (session_or_null handle
+        (λ s. FindsColumn of s answer number index out.new result)
         (result ≡ 1)) }
 {
     if handle.is_null() {

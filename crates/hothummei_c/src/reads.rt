@@ -70,7 +70,8 @@ fn pair_of(name: &Text, value: &Text) -> Pair
 // A parameter by its number.
 #[tactic(auto, using(crate::proofs::ReadLaws::one_later))]
 fn put_pair(parameters: &Params, index: usize, out: &mut Pair) -> u32
-    ensures { AnswersIndex (slice_get (map.entries parameters.now) index) (TellsPair out.new) result }
+    ensures { AnswersIndex (slice_get (map.entries parameters.now) index) (TellsPair out.new)
+        result }
 {
     let mut left = index;
     for (name, value) in parameters.iter() {

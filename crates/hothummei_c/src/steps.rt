@@ -21,7 +21,8 @@ fn take_all(
     out: &mut BytesMut,
 ) -> PgWireClientResult<bool>
     ensures own { IfErr result IsOwn }
-    ensures took { TookInbox (input_of input.now) notes.old notes.new inbox.old inbox.new out.old.items
+    ensures took { TookInbox (input_of input.now) notes.old notes.new inbox.old inbox.new
+        out.old.items
         out.new.items result }
 {
     'messages: loop {
@@ -44,7 +45,8 @@ pub fn feed(
     out: &mut BytesMut,
 ) -> PgWireClientResult<bool>
     ensures own { IfErr result IsOwn }
-    ensures took { TookInbox (input_of input.now) notes.old notes.new (inbox.old ++ bytes.now) inbox.new
+    ensures took { TookInbox (input_of input.now) notes.old notes.new (inbox.old ++ bytes.now)
+        inbox.new
         out.old.items out.new.items result }
 {
     match inbox.append(bytes) {

@@ -17,87 +17,139 @@ use Rattle.pgw_backend.specs.declared.backend.PgWireBackendMessage.{PgWireBacken
 use Rattle.pgw_backend.specs.declared.backend.PgWireBackendMessage.TheVariants as backend
 
 -- COPY; another byte is no message
-abbrev pub copy_by : ℕ → DecodeContext → List ℕ → Result (Option (PgWireBackendMessage × List ℕ)) PgWireError
+abbrev pub copy_by : ℕ → DecodeContext → List ℕ
+    → Result (Option (PgWireBackendMessage × List ℕ)) PgWireError
 copy_by byte ctx bytes =
-    if byte == 100 then as_one_of backend.CopyData (wire_front (Typed 100) 1073741822 (copy_data_of ctx) bytes)
-    else (if byte == 99 then as_one_of backend.CopyDone (wire_front (Typed 99) 10000 (copy_done_of ctx) bytes)
-    else (if byte == 102 then as_one_of backend.CopyFail (wire_front (Typed 102) 10000 (copy_fail_of ctx) bytes)
-    else (if byte == 71 then as_one_of backend.CopyInResponse (wire_front (Typed 71) 30000 (copy_in_response_of ctx) bytes)
-    else (if byte == 72 then as_one_of backend.CopyOutResponse (wire_front (Typed 72) 30000 (copy_out_response_of ctx) bytes)
-    else (if byte == 87 then as_one_of backend.CopyBothResponse (wire_front (Typed 87) 30000 (copy_both_response_of ctx) bytes)
+    if byte == 100 then as_one_of backend.CopyData
+    (wire_front (Typed 100) 1073741822 (copy_data_of ctx) bytes)
+    else (if byte == 99 then as_one_of backend.CopyDone
+    (wire_front (Typed 99) 10000 (copy_done_of ctx) bytes)
+    else (if byte == 102 then as_one_of backend.CopyFail
+    (wire_front (Typed 102) 10000 (copy_fail_of ctx) bytes)
+    else (if byte == 71 then as_one_of backend.CopyInResponse
+    (wire_front (Typed 71) 30000 (copy_in_response_of ctx) bytes)
+    else (if byte == 72 then as_one_of backend.CopyOutResponse
+    (wire_front (Typed 72) 30000 (copy_out_response_of ctx) bytes)
+    else (if byte == 87 then as_one_of backend.CopyBothResponse
+    (wire_front (Typed 87) 30000 (copy_both_response_of ctx) bytes)
     else (Err (InvalidMessageType byte)))))))
 
 -- the extended query, and COPY
-abbrev pub extended_by : ℕ → DecodeContext → List ℕ → Result (Option (PgWireBackendMessage × List ℕ)) PgWireError
+abbrev pub extended_by : ℕ → DecodeContext → List ℕ
+    → Result (Option (PgWireBackendMessage × List ℕ)) PgWireError
 extended_by byte ctx bytes =
-    if byte == 49 then as_one_of backend.ParseComplete (wire_front (Typed 49) 30000 (parse_complete_of ctx) bytes)
-    else (if byte == 50 then as_one_of backend.BindComplete (wire_front (Typed 50) 30000 (bind_complete_of ctx) bytes)
-    else (if byte == 51 then as_one_of backend.CloseComplete (wire_front (Typed 51) 30000 (close_complete_of ctx) bytes)
-    else (if byte == 115 then as_one_of backend.PortalSuspended (wire_front (Typed 115) 30000 (portal_suspended_of ctx) bytes)
-    else (if byte == 110 then as_one_of backend.NoData (wire_front (Typed 110) 30000 (no_data_of ctx) bytes)
-    else (if byte == 116 then as_one_of backend.ParameterDescription (wire_front (Typed 116) 2147483647 (parameter_description_of ctx) bytes)
+    if byte == 49 then as_one_of backend.ParseComplete
+    (wire_front (Typed 49) 30000 (parse_complete_of ctx) bytes)
+    else (if byte == 50 then as_one_of backend.BindComplete
+    (wire_front (Typed 50) 30000 (bind_complete_of ctx) bytes)
+    else (if byte == 51 then as_one_of backend.CloseComplete
+    (wire_front (Typed 51) 30000 (close_complete_of ctx) bytes)
+    else (if byte == 115 then as_one_of backend.PortalSuspended
+    (wire_front (Typed 115) 30000 (portal_suspended_of ctx) bytes)
+    else (if byte == 110 then as_one_of backend.NoData
+    (wire_front (Typed 110) 30000 (no_data_of ctx) bytes)
+    else (if byte == 116 then as_one_of backend.ParameterDescription
+    (wire_front (Typed 116) 2147483647 (parameter_description_of ctx) bytes)
     else (copy_by byte ctx bytes))))))
 
 -- queries, and those
-abbrev pub query_by : ℕ → DecodeContext → List ℕ → Result (Option (PgWireBackendMessage × List ℕ)) PgWireError
+abbrev pub query_by : ℕ → DecodeContext → List ℕ
+    → Result (Option (PgWireBackendMessage × List ℕ)) PgWireError
 query_by byte ctx bytes =
-    if byte == 67 then as_one_of backend.CommandComplete (wire_front (Typed 67) 30000 (command_complete_of ctx) bytes)
-    else (if byte == 73 then as_one_of backend.EmptyQueryResponse (wire_front (Typed 73) 30000 (empty_query_response_of ctx) bytes)
-    else (if byte == 90 then as_one_of backend.ReadyForQuery (wire_front (Typed 90) 30000 (ready_for_query_of ctx) bytes)
-    else (if byte == 69 then as_one_of backend.ErrorResponse (wire_front (Typed 69) 2147483647 (error_response_of ctx) bytes)
-    else (if byte == 78 then as_one_of backend.NoticeResponse (wire_front (Typed 78) 2147483647 (notice_response_of ctx) bytes)
-    else (if byte == 65 then as_one_of backend.NotificationResponse (wire_front (Typed 65) 2147483647 (notification_response_of ctx) bytes)
-    else (if byte == 84 then as_one_of backend.RowDescription (wire_front (Typed 84) 2147483647 (row_description_of ctx) bytes)
-    else (if byte == 68 then as_one_of backend.DataRow (wire_front (Typed 68) 2147483647 (data_row_of ctx) bytes)
+    if byte == 67 then as_one_of backend.CommandComplete
+    (wire_front (Typed 67) 30000 (command_complete_of ctx) bytes)
+    else (if byte == 73 then as_one_of backend.EmptyQueryResponse
+    (wire_front (Typed 73) 30000 (empty_query_response_of ctx) bytes)
+    else (if byte == 90 then as_one_of backend.ReadyForQuery
+    (wire_front (Typed 90) 30000 (ready_for_query_of ctx) bytes)
+    else (if byte == 69 then as_one_of backend.ErrorResponse
+    (wire_front (Typed 69) 2147483647 (error_response_of ctx) bytes)
+    else (if byte == 78 then as_one_of backend.NoticeResponse
+    (wire_front (Typed 78) 2147483647 (notice_response_of ctx) bytes)
+    else (if byte == 65 then as_one_of backend.NotificationResponse
+    (wire_front (Typed 65) 2147483647 (notification_response_of ctx) bytes)
+    else (if byte == 84 then as_one_of backend.RowDescription
+    (wire_front (Typed 84) 2147483647 (row_description_of ctx) bytes)
+    else (if byte == 68 then as_one_of backend.DataRow
+    (wire_front (Typed 68) 2147483647 (data_row_of ctx) bytes)
     else (extended_by byte ctx bytes))))))))
 
 -- by the type byte: the login, and those
-abbrev pub backend_by : ℕ → DecodeContext → List ℕ → Result (Option (PgWireBackendMessage × List ℕ)) PgWireError
+abbrev pub backend_by : ℕ → DecodeContext → List ℕ
+    → Result (Option (PgWireBackendMessage × List ℕ)) PgWireError
 backend_by byte ctx bytes =
-    if byte == 82 then as_one_of backend.Authentication (wire_front (Typed 82) 30000 (authentication_of ctx) bytes)
-    else (if byte == 83 then as_one_of backend.ParameterStatus (wire_front (Typed 83) 30000 (parameter_status_of ctx) bytes)
-    else (if byte == 75 then as_one_of backend.BackendKeyData (wire_front (Typed 75) 30000 (backend_key_data_of ctx) bytes)
-    else (if byte == 118 then as_one_of backend.NegotiateProtocolVersion (wire_front (Typed 118) 30000 (negotiate_of ctx) bytes)
+    if byte == 82 then as_one_of backend.Authentication
+    (wire_front (Typed 82) 30000 (authentication_of ctx) bytes)
+    else (if byte == 83 then as_one_of backend.ParameterStatus
+    (wire_front (Typed 83) 30000 (parameter_status_of ctx) bytes)
+    else (if byte == 75 then as_one_of backend.BackendKeyData
+    (wire_front (Typed 75) 30000 (backend_key_data_of ctx) bytes)
+    else (if byte == 118 then as_one_of backend.NegotiateProtocolVersion
+    (wire_front (Typed 118) 30000 (negotiate_of ctx) bytes)
     else (query_by byte ctx bytes))))
 
 -- two bytes are looked for before the type byte is
-abbrev pub backend_typed_front : DecodeContext → List ℕ → Result (Option (PgWireBackendMessage × List ℕ)) PgWireError
+abbrev pub backend_typed_front : DecodeContext → List ℕ
+    → Result (Option (PgWireBackendMessage × List ℕ)) PgWireError
 backend_typed_front ctx bytes =
     if nat_lt (length bytes) 2 then Ok None
     else backend_by (slice_index bytes 0) ctx bytes
 
 -- one byte answers a request for encryption
-unfoldable pub backend_front : DecodeContext → List ℕ → Result (Option (PgWireBackendMessage × List ℕ)) PgWireError
+unfoldable pub backend_front : DecodeContext → List ℕ
+    → Result (Option (PgWireBackendMessage × List ℕ)) PgWireError
 backend_front ctx bytes =
-    if ctx.awaiting_backend_ssl_response then as_one_of backend.SslResponse (wire_front OneByte 10000 (ssl_response_of ctx) bytes)
-    else (if ctx.awaiting_backend_gss_response then as_one_of backend.GssEncResponse (wire_front OneByte 10000 (gss_enc_response_of ctx) bytes)
+    if ctx.awaiting_backend_ssl_response then as_one_of backend.SslResponse
+    (wire_front OneByte 10000 (ssl_response_of ctx) bytes)
+    else (if ctx.awaiting_backend_gss_response then as_one_of backend.GssEncResponse
+    (wire_front OneByte 10000 (gss_enc_response_of ctx) bytes)
     else backend_typed_front ctx bytes)
 
 -- the one spelling that is written of a message, or why there is none
 unfoldable pub backend_encoding : PgWireBackendMessage → Result (List ℕ) PgWireError
 backend_encoding (backend.SslResponse m) = encoded OneByte 10000 None (ssl_byte m ∷ [])
 backend_encoding (backend.GssEncResponse m) = encoded OneByte 10000 None (gss_byte m ∷ [])
-backend_encoding (backend.Authentication m) = encoded (Typed 82) 30000 (authentication_fault m) (authentication m)
-backend_encoding (backend.ParameterStatus m) = encoded (Typed 83) 30000 (parameter_status_fault m) (parameter_status m)
-backend_encoding (backend.BackendKeyData m) = encoded (Typed 75) 30000 (key_fault m.secret_key) (backend_key_data m)
-backend_encoding (backend.NegotiateProtocolVersion m) = encoded (Typed 118) 30000 (refused_if (is_options_refused m.unsupported_options)) (negotiate m)
+backend_encoding (backend.Authentication m) =
+    encoded (Typed 82) 30000 (authentication_fault m) (authentication m)
+backend_encoding (backend.ParameterStatus m) =
+    encoded (Typed 83) 30000 (parameter_status_fault m) (parameter_status m)
+backend_encoding (backend.BackendKeyData m) =
+    encoded (Typed 75) 30000 (key_fault m.secret_key) (backend_key_data m)
+backend_encoding (backend.NegotiateProtocolVersion m) =
+    encoded (Typed 118) 30000 (refused_if (is_options_refused m.unsupported_options))
+    (negotiate m)
 backend_encoding (backend.ParseComplete m) = encoded (Typed 49) 30000 None []
 backend_encoding (backend.BindComplete m) = encoded (Typed 50) 30000 None []
 backend_encoding (backend.CloseComplete m) = encoded (Typed 51) 30000 None []
 backend_encoding (backend.PortalSuspended m) = encoded (Typed 115) 30000 None []
 backend_encoding (backend.EmptyQueryResponse m) = encoded (Typed 73) 30000 None []
 backend_encoding (backend.NoData m) = encoded (Typed 110) 30000 None []
-backend_encoding (backend.CommandComplete m) = encoded (Typed 67) 30000 (refused_if (has_zero m.tag)) (text m.tag)
-backend_encoding (backend.ReadyForQuery m) = encoded (Typed 90) 30000 None (status_byte m.status ∷ [])
-backend_encoding (backend.ErrorResponse m) = encoded (Typed 69) 2147483647 (codes_fault m.fields) (codes m.fields)
-backend_encoding (backend.NoticeResponse m) = encoded (Typed 78) 2147483647 (codes_fault m.fields) (codes m.fields)
-backend_encoding (backend.NotificationResponse m) = encoded (Typed 65) 2147483647 (refused_if (is_notification_refused m)) (notification_response m)
-backend_encoding (backend.ParameterDescription m) = encoded (Typed 116) 2147483647 (refused_if (is_too_long m.types)) (counted16 u32 m.types)
-backend_encoding (backend.RowDescription m) = encoded (Typed 84) 2147483647 (refused_if (is_refused m.fields)) (row_description m)
+backend_encoding (backend.CommandComplete m) =
+    encoded (Typed 67) 30000 (refused_if (has_zero m.tag)) (text m.tag)
+backend_encoding (backend.ReadyForQuery m) =
+    encoded (Typed 90) 30000 None (status_byte m.status ∷ [])
+backend_encoding (backend.ErrorResponse m) =
+    encoded (Typed 69) 2147483647 (codes_fault m.fields) (codes m.fields)
+backend_encoding (backend.NoticeResponse m) =
+    encoded (Typed 78) 2147483647 (codes_fault m.fields) (codes m.fields)
+backend_encoding (backend.NotificationResponse m) =
+    encoded (Typed 65) 2147483647 (refused_if (is_notification_refused m))
+    (notification_response m)
+backend_encoding (backend.ParameterDescription m) =
+    encoded (Typed 116) 2147483647 (refused_if (is_too_long m.types)) (counted16 u32 m.types)
+backend_encoding (backend.RowDescription m) =
+    encoded (Typed 84) 2147483647 (refused_if (is_refused m.fields)) (row_description m)
 backend_encoding (backend.DataRow m) = encoded (Typed 68) 2147483647 None (data_row m)
 backend_encoding (backend.CopyData m) = encoded (Typed 100) 1073741822 None m.payload
 backend_encoding (backend.CopyDone m) = encoded (Typed 99) 10000 None []
-backend_encoding (backend.CopyFail m) = encoded (Typed 102) 10000 (refused_if (has_zero m.message)) (text m.message)
-backend_encoding (backend.CopyInResponse m) = encoded (Typed 71) 30000 (refused_if (is_miscounted m.columns m.column_formats)) (formats m.format m.columns m.column_formats)
-backend_encoding (backend.CopyOutResponse m) = encoded (Typed 72) 30000 (refused_if (is_miscounted m.columns m.column_formats)) (formats m.format m.columns m.column_formats)
-backend_encoding (backend.CopyBothResponse m) = encoded (Typed 87) 30000 (refused_if (is_miscounted m.columns m.column_formats)) (formats m.format m.columns m.column_formats)
+backend_encoding (backend.CopyFail m) =
+    encoded (Typed 102) 10000 (refused_if (has_zero m.message)) (text m.message)
+backend_encoding (backend.CopyInResponse m) =
+    encoded (Typed 71) 30000 (refused_if (is_miscounted m.columns m.column_formats))
+    (formats m.format m.columns m.column_formats)
+backend_encoding (backend.CopyOutResponse m) =
+    encoded (Typed 72) 30000 (refused_if (is_miscounted m.columns m.column_formats))
+    (formats m.format m.columns m.column_formats)
+backend_encoding (backend.CopyBothResponse m) =
+    encoded (Typed 87) 30000 (refused_if (is_miscounted m.columns m.column_formats))
+    (formats m.format m.columns m.column_formats)

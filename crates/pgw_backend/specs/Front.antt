@@ -28,7 +28,8 @@ typed_phase version = record {
   awaiting_backend_gss_response = false;
 }
 
-abbrev pub front_of : List ℕ → Result (Option (PgWireBackendMessage × List ℕ)) PgWireError → BackendFront
+abbrev pub front_of : List ℕ → Result (Option (PgWireBackendMessage × List ℕ)) PgWireError
+    → BackendFront
 front_of bytes (Err e) = Bad e
 front_of bytes (Ok None) = More
 front_of bytes (Ok (Some x)) = Whole x.0 (length bytes - length x.1)
@@ -54,8 +55,10 @@ Spelled version (backend.CommandComplete m) = SpellsTyped 67 30000 SpellsCommand
 Spelled version (backend.ReadyForQuery m) = SpellsTyped 90 30000 SpellsReadyForQuery m
 Spelled version (backend.ErrorResponse m) = SpellsTyped 69 2147483647 SpellsErrorResponse m
 Spelled version (backend.NoticeResponse m) = SpellsTyped 78 2147483647 SpellsNoticeResponse m
-Spelled version (backend.NotificationResponse m) = SpellsTyped 65 2147483647 SpellsNotificationResponse m
-Spelled version (backend.ParameterDescription m) = SpellsTyped 116 2147483647 SpellsParameterDescription m
+Spelled version (backend.NotificationResponse m) =
+    SpellsTyped 65 2147483647 SpellsNotificationResponse m
+Spelled version (backend.ParameterDescription m) =
+    SpellsTyped 116 2147483647 SpellsParameterDescription m
 Spelled version (backend.RowDescription m) = SpellsTyped 84 2147483647 SpellsRowDescription m
 Spelled version (backend.DataRow m) = SpellsTyped 68 2147483647 SpellsDataRow m
 Spelled version (backend.CopyData m) = SpellsTyped 100 1073741822 SpellsCopyData m
@@ -68,8 +71,10 @@ Spelled version (backend.CopyBothResponse m) = SpellsTyped 87 30000 SpellsCopyBo
 -- the phase in which the message comes
 abbrev pub AwaitsBackend : DecodeContext → PgWireBackendMessage → Type 0
 AwaitsBackend ctx (backend.SslResponse m) = ctx.awaiting_backend_ssl_response ≡ true
-AwaitsBackend ctx (backend.GssEncResponse m) = (ctx.awaiting_backend_ssl_response ≡ false) × (ctx.awaiting_backend_gss_response ≡ true)
-AwaitsBackend ctx m = (ctx.awaiting_backend_ssl_response ≡ false) × (ctx.awaiting_backend_gss_response ≡ false)
+AwaitsBackend ctx (backend.GssEncResponse m) =
+    (ctx.awaiting_backend_ssl_response ≡ false) × (ctx.awaiting_backend_gss_response ≡ true)
+AwaitsBackend ctx m =
+    (ctx.awaiting_backend_ssl_response ≡ false) × (ctx.awaiting_backend_gss_response ≡ false)
 
 -- the bytes spell the message in this context
 unfoldable pub SpellsIn : DecodeContext → PgWireBackendMessage → List ℕ → Type 0

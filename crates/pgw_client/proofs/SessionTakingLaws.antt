@@ -20,20 +20,30 @@ use Rattle.pgw_machine.specs.Course.{Begins}
 use Rattle.pgw_client.specs.SessionSteps as outcomes
 
 -- a message is refused
-pub refused : {input : Input} {old_notes notes : Notes} {old new : Tape} {old_buffer buffer : List ℕ} (e : ClientError) → ClientGoesOn input old_notes notes old new old_buffer buffer
-    → Unless e ((end : End Notes) × (error_of end.outcome ≡ Some e) × ((sent : List ℕ) → runs input notes sent buffer ≡ Over end sent))
+pub refused : {input : Input} {old_notes notes : Notes} {old new : Tape} {old_buffer buffer : List ℕ}
+    (e : ClientError)
+    → ClientGoesOn input old_notes notes old new old_buffer buffer
+    → Unless e ((end : End Notes) × (error_of end.outcome ≡ Some e) ×
+    ((sent : List ℕ) → runs input notes sent buffer ≡ Over end sent))
     → Broke (runs input old_notes old.wrote old_buffer) old new e
 refused {input} {old_notes} {notes} {old} {new} {old_buffer} {buffer} e going step = record {
   reads_nothing = going.reads_nothing;
   begins = begins_at input notes new.wrote buffer _ going.course;
-  stopping = elim (memory_or e) [ inl is ↦ memory is | inr ne ↦ let s = step ne in stopped s.0 (going.course ∙ s.2 new.wrote) s.1 ];
+  stopping =
+      elim (memory_or e) [
+        | inl is ↦ memory is
+        | inr ne ↦ let s = step ne in stopped s.0 (going.course
+            ∙ s.2 new.wrote) s.1
+      ];
   flushed = λ no. going.flushed;
   no_shorter = going.no_shorter;
   writes = omega (arith, going.writes);
 }
 
 -- a write or the flush failed
-pub unsent : {input : Input} {old_notes notes : Notes} {old mid new : Tape} {old_buffer buffer : List ℕ} (rest : List ℕ) (next : Notes) (out : List ℕ) → ClientGoesOn input old_notes notes old mid old_buffer buffer
+pub unsent : {input : Input} {old_notes notes : Notes} {old mid new : Tape} {old_buffer buffer : List ℕ}
+    (rest : List ℕ) (next : Notes) (out : List ℕ)
+    → ClientGoesOn input old_notes notes old mid old_buffer buffer
     → ((sent : List ℕ) → runs input notes sent buffer ≡ runs input next (sent ++ out) rest)
     → 0 < length out → WroteSome mid new out
     → Broke (runs input old_notes old.wrote old_buffer) old new client.IoError
@@ -49,8 +59,12 @@ unsent {input} {old_notes} {notes} {old} {mid} {new} {old_buffer} {buffer} rest 
     ∙ ap (λ (w : List ℕ). w ++ (drop k out ++ all.0)) (sym wrote.wrote) in
     let r = wrote.reads_nothing in
     let q = going.reads_nothing in
-    let len_wrote : length new.wrote ≡ length mid.wrote + k = ap length wrote.wrote ∙ length-append mid.wrote (take k out) ∙ ap (λ n. length mid.wrote + n) (length-take-le k out wrote.count_in) in
-    let len_sent : length (sent_of course) ≡ length mid.wrote + length out + length all.0 = ap length all.1 ∙ length-append (mid.wrote ++ out) all.0 ∙ ap (λ n. n + length all.0) (length-append mid.wrote out) in
+    let len_wrote : length new.wrote ≡ length mid.wrote + k =
+    ap length wrote.wrote ∙ length-append mid.wrote (take k out)
+    ∙ ap (λ n. length mid.wrote + n) (length-take-le k out wrote.count_in) in
+    let len_sent : length (sent_of course) ≡ length mid.wrote + length out + length all.0 =
+    ap length all.1 ∙ length-append (mid.wrote ++ out) all.0
+    ∙ ap (λ n. n + length all.0) (length-append mid.wrote out) in
     record {
       reads_nothing = record { took = r.took ∙ q.took; ended = r.ended ∙ q.ended; reads = r.reads ∙ q.reads };
       begins = (drop k out ++ all.0, all.1 ∙ split);
@@ -61,13 +75,16 @@ unsent {input} {old_notes} {notes} {old} {mid} {new} {old_buffer} {buffer} rest 
     }
 
 -- what was put out was sent
-pub sent_on : {input : Input} {old_notes notes : Notes} {old mid new : Tape} {old_buffer buffer : List ℕ} (rest : List ℕ) (next : Notes) (out : List ℕ) → ClientGoesOn input old_notes notes old mid old_buffer buffer
+pub sent_on : {input : Input} {old_notes notes : Notes} {old mid new : Tape} {old_buffer buffer : List ℕ}
+    (rest : List ℕ) (next : Notes) (out : List ℕ)
+    → ClientGoesOn input old_notes notes old mid old_buffer buffer
     → ((sent : List ℕ) → runs input notes sent buffer ≡ runs input next (sent ++ out) rest)
     → Wrote mid new out → ClientGoesOn input old_notes next old new old_buffer rest
 sent_on {input} {old_notes} {notes} {old} {mid} {new} rest next out going step wrote =
     let r = wrote.reads_nothing in
     let q = going.reads_nothing in
-    let len : length new.wrote ≡ length mid.wrote + length out = ap length wrote.wrote ∙ length-append mid.wrote out in
+    let len : length new.wrote ≡ length mid.wrote + length out =
+    ap length wrote.wrote ∙ length-append mid.wrote out in
     record {
       reads_nothing = record { took = r.took ∙ q.took; ended = r.ended ∙ q.ended; reads = r.reads ∙ q.reads };
       course = going.course ∙ step mid.wrote ∙ ap (λ (w : List ℕ). runs input next w rest) (sym wrote.wrote);
@@ -77,20 +94,27 @@ sent_on {input} {old_notes} {notes} {old} {mid} {new} rest next out going step w
     }
 
 -- nothing was put out
-pub silent_on : {input : Input} {old_notes notes : Notes} {old mid : Tape} {old_buffer buffer : List ℕ} (rest : List ℕ) (next : Notes) (out : List ℕ) → ClientGoesOn input old_notes notes old mid old_buffer buffer
+pub silent_on : {input : Input} {old_notes notes : Notes} {old mid : Tape} {old_buffer buffer : List ℕ}
+    (rest : List ℕ) (next : Notes) (out : List ℕ)
+    → ClientGoesOn input old_notes notes old mid old_buffer buffer
     → ((sent : List ℕ) → runs input notes sent buffer ≡ runs input next (sent ++ out) rest)
     → out ≡ [] → ClientGoesOn input old_notes next old mid old_buffer rest
 silent_on {input} {old_notes} {notes} {old} {mid} rest next out going step none = record {
   reads_nothing = going.reads_nothing;
-  course = going.course ∙ step mid.wrote ∙ ap (λ (w : List ℕ). runs input next (mid.wrote ++ w) rest) none ∙ ap (λ (w : List ℕ). runs input next w rest) (append-nil mid.wrote);
+  course =
+      going.course ∙ step mid.wrote ∙ ap (λ (w : List ℕ). runs input next (mid.wrote ++ w) rest) none
+      ∙ ap (λ (w : List ℕ). runs input next w rest) (append-nil mid.wrote);
   flushed = going.flushed;
   no_shorter = going.no_shorter;
   writes = going.writes;
 }
 
 -- the session is whole
-pub whole : {input : Input} {old_notes notes : Notes} {old new : Tape} {old_buffer buffer : List ℕ} (rest : List ℕ) (after : Notes) (end : End Notes) → ClientGoesOn input old_notes notes old new old_buffer buffer
-    → IsWholeEnd end (report_at after) → ((sent : List ℕ) → runs input notes sent buffer ≡ Over end sent) → ClientSettles input (runs input old_notes old.wrote old_buffer) after old new rest true
+pub whole : {input : Input} {old_notes notes : Notes} {old new : Tape} {old_buffer buffer : List ℕ}
+    (rest : List ℕ) (after : Notes) (end : End Notes)
+    → ClientGoesOn input old_notes notes old new old_buffer buffer
+    → IsWholeEnd end (report_at after) → ((sent : List ℕ) → runs input notes sent buffer ≡ Over end sent)
+    → ClientSettles input (runs input old_notes old.wrote old_buffer) after old new rest true
 whole {input} {old_notes} {notes} {old} {new} rest after end going is step = record {
   reads_nothing = going.reads_nothing;
   came = (end, going.course ∙ step new.wrote, is);

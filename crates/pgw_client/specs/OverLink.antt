@@ -24,9 +24,17 @@ pub record LinkSpan : Type 0 where
   pub before : ℕ
   pub now : ℕ
 
-abbrev pub link_span : {L : Type 0} → (L → Tape) → (L → Option (List ℕ)) → (L → ℕ) → L → L → LinkSpan
+abbrev pub link_span : {L : Type 0} → (L → Tape) → (L → Option (List ℕ)) → (L → ℕ) → L → L
+    → LinkSpan
 link_span tape left faults old new =
-    record { old = tape old; new = tape new; was = left old; is = left new; before = faults old; now = faults new }
+    record {
+      old = tape old;
+      new = tape new;
+      was = left old;
+      is = left new;
+      before = faults old;
+      now = faults new;
+    }
 
 -- All that is promised of a session with this input and limit over a link, with its answer: the contract of `run_session`,
 -- which whoever holds a session cites. What is to come on the link is known where `foretells` holds.
@@ -34,7 +42,8 @@ pub record OverLink (input : Input) (limit : ℕ) (foretells : Type 0) (link : L
     (outcome : Result SessionReport PgWireClientError) : Type 0 where
   -- A configuration that demands an encrypted connection, or else a bound login without a certificate's hash, is refused
   -- by that key, or memory is wanting: nothing was read or written.
-  pub refused : IfSome (refused_config input.config) (λ key. RefusesKey key outcome × (link.new ≡ link.old))
+  pub refused : IfSome (refused_config input.config)
+      (λ key. RefusesKey key outcome × (link.new ≡ link.old))
   -- No other is refused so, but for a user name that has no prepared form.
   pub demands : (key : List ℕ) → outcome ≡ Err (client.InvalidConfig key)
       → (refused_config input.config ≡ Some key) ⊎ (key ≡ codes "user")
@@ -43,13 +52,15 @@ pub record OverLink (input : Input) (limit : ℕ) (foretells : Type 0) (link : L
   -- and there no other answer does.
   pub failing : link.before < link.now → IsErrOf outcome client.IoError
   -- A report is that of a completed session: a transcript for this input, whose bytes were read and written.
-  pub completed : IfOk outcome (λ report. MovedBy link.old link.new (λ taken sent. Completed input taken sent report))
+  pub completed : IfOk outcome
+      (λ report. MovedBy link.old link.new (λ taken sent. Completed input taken sent report))
   -- Each error has its cause, and no other comes.
   pub causes : Causes input limit link.old link.new outcome
   -- Where nothing is demanded that is refused, whatever the answer: the bytes taken are those of a legal prefix. What was
   -- written are the encodings of the messages sent in it, all of them, or a front of them after IoError and want of
   -- memory.
-  pub told : refused_config input.config ≡ None → MovedBy link.old link.new (TellsSession input outcome)
+  pub told : refused_config input.config ≡ None
+      → MovedBy link.old link.new (TellsSession input outcome)
   -- It is within the limit, in few calls.
   pub paced : MovedBy link.old link.new (KeepsPace limit link.old link.new)
   -- The link's end is answered at most once, behind it nothing is asked for any more. Then, whatever the answer, all that
@@ -61,12 +72,14 @@ pub record OverLink (input : Input) (limit : ℕ) (foretells : Type 0) (link : L
   pub flushed : refused_config input.config ≡ None → LeavesFlushed link.old link.new outcome
   -- Where nothing is demanded that is refused, it is a session by the record that laws cite: as that a dialogue which is
   -- given the same bytes puts out the same and answers the same.
-  pub session : refused_config input.config ≡ None → LinkSession input limit link.old link.new outcome
+  pub session : refused_config input.config ≡ None
+      → LinkSession input limit link.old link.new outcome
   -- Of a link that knows what is to come: the bytes taken are its front, and the end is answered behind the last byte.
   pub foreseen : foretells → Foreseen link.was link.is link.old link.new
   pub ends : foretells → TapeEnds link.is link.old link.new
   -- Where nothing is demanded that is refused, the bytes to come are known and complete a transcript within the limit,
   -- and no call of the link failed, its report is the answer.
-  pub reports : foretells → refused_config input.config ≡ None → (whole : List ℕ) → link.was ≡ Some whole
+  pub reports : foretells → refused_config input.config ≡ None → (whole : List ℕ)
+      → link.was ≡ Some whole
       → (segments : List (List Event)) → Completes input limit whole segments
       → (Rose link.before link.now → ⊥) → AnswersReport (report_of input segments) outcome

@@ -87,7 +87,8 @@ pub data FailsToAsk (q : Request) (before : Client) (old : Line) (after : Client
     (broken : Bool) : ClientError → Type 0 where
   failed : (e : ClientError) → FailsRequest q before old after now broken e →
       FailsToAsk q before old after now broken e
-  wants : (name : List ℕ) → request_name q ≡ Some name → after ≡ before → now ≡ old → broken ≡ false →
+  wants : (name : List ℕ) → request_name q ≡ Some name → after ≡ before → now ≡ old
+      → broken ≡ false →
       FailsToAsk q before old after now broken client.OutOfMemory
 
 -- ---- either
@@ -95,7 +96,8 @@ pub data FailsToAsk (q : Request) (before : Client) (old : Line) (after : Client
 -- a request was asked
 abbrev pub Asks : Request → Client → Line → Client → Line → Bool → Result Answer ClientError →
     Type 0
-Asks q before old after now broken (Ok a) = AddsAskedRequest q a before old after now × (broken ≡ false)
+Asks q before old after now broken (Ok a) =
+    AddsAskedRequest q a before old after now × (broken ≡ false)
 Asks q before old after now broken (Err e) = FailsToAsk q before old after now broken e
 
 -- ---- how its call ends

@@ -8,15 +8,15 @@ ghost use Rattle.pgw_client_calls.specs.Line.{Foretold, StaysWithin};
 ghost use Rattle.pgw_client_calls.specs.State.{line_of, link_of, known_by, is_broken};
 ghost use Rattle.pgw_client_ask.specs.Asking.{Asks, AnswerCame, EndsRequest, error_as_answer, request_name};
 
-use pgw_client_laws::laws::{
-    extended_queries_are_segments, extended_queries_follow_one_another,
-    simple_queries_are_segments, simple_queries_follow_one_another,
-};
 use pgw_client::{
     Answer, DataRows, ExecuteResult, Link, Listed, PgWireClientError, PgWireClientResult, Request,
     Text,
 };
 use pgw_client_calls::{DescribeResponse, Gathered, PgWireClient, PrepareResponse};
+use pgw_client_laws::laws::{
+    extended_queries_are_segments, extended_queries_follow_one_another,
+    simple_queries_are_segments, simple_queries_follow_one_another,
+};
 use pgw_handlers_default::{DefaultExtendedQueryHandler, DefaultSimpleQueryHandler};
 use pgw_types::listed::Duplicate;
 use pgw_types::memory::OutOfMemory;

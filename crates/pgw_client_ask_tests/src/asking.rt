@@ -1,10 +1,10 @@
 //! What a request of each kind is answered over a link in memory, and what is left of the client.
 
-use pgw_client_ask::ask;
 use pgw_client::{
     Answer, Config, DataRows, ExecuteResult, Listed, MemoryDialer, MemoryLink, Octets, OutOfMemory,
     PgWireClientError, PgWireClientResult, Request, Target,
 };
+use pgw_client_ask::ask;
 use pgw_client_calls::PgWireClient;
 use pgw_handlers_default::DefaultStartupHandler;
 use std::alloc::Global;

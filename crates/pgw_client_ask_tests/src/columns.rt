@@ -1,7 +1,7 @@
 //! Columns, looked up by their names.
 
-use pgw_client_ask::column;
 use pgw_client::{FieldFormat, FieldInfo, Listed, OutOfMemory, PgType, Text};
+use pgw_client_ask::column;
 use std::alloc::Global;
 use std::test::Fail;
 

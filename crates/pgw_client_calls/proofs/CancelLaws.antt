@@ -8,8 +8,14 @@ use Rattle.pgw_link.specs.Dials.{DialTape, MakesNext}
 use Rattle.pgw_dialogue.specs.Wire.{PutOut}
 use Rattle.pgw_client_calls.specs.Canceling.{SentOnce, NotSentOnce, Cancels, sent, unsent}
 
-pub cancel_sent : {same foretells : Type 0} {was is : Option (List (List ℕ))} {old new : DialTape} {before now : ℕ} (address : Address) (spelled : Result (List ℕ) PgWireError) (out : List ℕ) (r : Result (Unit {0}) ClientError) → PutOut spelled [] out (Ok tt)
-    → OnOk r (SentOnce address out old new) → OnOk r (now ≡ before) → (foretells → OnOk r ((offer : Option (List ℕ)) × MakesNext was is offer)) → IfErr r (NotSentOnce foretells address out was is old new before now) → Cancels same foretells address spelled was is old new before now r
+pub cancel_sent : {same foretells : Type 0} {was is : Option (List (List ℕ))} {old new : DialTape}
+    {before now : ℕ} (address : Address) (spelled : Result (List ℕ) PgWireError) (out : List ℕ)
+    (r : Result (Unit {0}) ClientError)
+    → PutOut spelled [] out (Ok tt)
+    → OnOk r (SentOnce address out old new) → OnOk r (now ≡ before)
+    → (foretells → OnOk r ((offer : Option (List ℕ)) × MakesNext was is offer))
+    → IfErr r (NotSentOnce foretells address out was is old new before now)
+    → Cancels same foretells address spelled was is old new before now r
 cancel_sent {same} {foretells} {was} {is} {old} {new} {before} {now} address spelled out (Ok done) p s calm next f =
     sent p.0 p.1 (subst (λ (b : List ℕ). SentOnce address b old new) p.2 s) calm next
 cancel_sent {same} {foretells} {was} {is} {old} {new} {before} {now} address spelled out (Err e) p s calm next f =

@@ -11,10 +11,13 @@ pub foretold_still : (a : Option (List ℕ)) (t : Tape) → Foretold a a t t
 foretold_still a t = record { foreseen = foreseen_still a t; ends = ends_still a t }
 
 -- calls that read nothing
-pub foretold_kept : (a b : Option (List ℕ)) (t u : Tape) → u.took ≡ t.took → u.ended ≡ t.ended → Keeps a b → Foretold a b t u
-foretold_kept a b t u took ended kept = record { foreseen = foreseen_kept a b t u took kept; ends = ends_on b t u ended }
+pub foretold_kept : (a b : Option (List ℕ)) (t u : Tape) → u.took ≡ t.took → u.ended ≡ t.ended → Keeps a b
+    → Foretold a b t u
+foretold_kept a b t u took ended kept =
+    record { foreseen = foreseen_kept a b t u took kept; ends = ends_on b t u ended }
 
-pub foretold_on : (a b c : Option (List ℕ)) (t u v : Tape) → IsSome b → Foretold a b t u → Foretold b c u v → Foretold a c t v
+pub foretold_on : (a b c : Option (List ℕ)) (t u v : Tape) → IsSome b → Foretold a b t u → Foretold b c u v
+    → Foretold a c t v
 foretold_on a b c t u v some f g = record {
   foreseen = foreseen_on a b c t u v f.foreseen g.foreseen;
   ends = ends_further b c t u v some f.ends g.foreseen g.ends;
@@ -25,5 +28,14 @@ foretold_from a b c t u v same also f =
     subst (λ (x : Option (List ℕ)). Foretold x c u v) same (subst (λ (x : Tape). Foretold a c x v) also f)
 
 -- a dialer that offers what it did stands so behind the link that was made
-pub made_still : (was mid is : Option (List (List ℕ))) (left : Option (List ℕ)) → is ≡ mid → MakesNext was mid left → MakesNext was is left
-made_still was mid is left same made = record { bytes = made.bytes; more = made.more; offered = made.offered; own = made.own; still = same ∙ made.still }
+pub made_still : (was mid is : Option (List (List ℕ))) (left : Option (List ℕ)) → is ≡ mid
+    → MakesNext was mid left → MakesNext was is left
+made_still was mid is left same made =
+    record {
+      bytes = made.bytes;
+      more = made.more;
+      offered = made.offered;
+      own = made.own;
+      still = same
+          ∙ made.still;
+    }

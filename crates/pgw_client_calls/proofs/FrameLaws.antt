@@ -37,13 +37,15 @@ frame_waits limit a e =
       ]
     ]
 
-none_framed : {M : Type 0} (read : List ℕ → Result M PgWireError) (bytes : List ℕ) (o : Option (ℕ × ℕ)) → framed read bytes o ≡ Ok None → o ≡ None
+none_framed : {M : Type 0} (read : List ℕ → Result M PgWireError) (bytes : List ℕ) (o : Option (ℕ × ℕ))
+    → framed read bytes o ≡ Ok None → o ≡ None
 none_framed read bytes None e = refl
 none_framed {M} read bytes (Some f) e =
     let s = bind_ok _ (λ (m : M). Ok (Some (m, _))) None e in
     absurd (let no : Ok (Some _) ≡ Ok None = s.2 in cc)
 
-front_waits : {M : Type 0} (byte limit : ℕ) (read : List ℕ → Result M PgWireError) → Waits (front_by (Typed byte) limit read)
+front_waits : {M : Type 0} (byte limit : ℕ) (read : List ℕ → Result M PgWireError)
+    → Waits (front_by (Typed byte) limit read)
 unfolding front_by frame
 front_waits byte limit read bytes e =
     let s = bind_ok (length_frame 1 limit bytes) (framed read bytes) None e in
@@ -53,14 +55,16 @@ none_made : {A B : Type 0} (f : A → B) (o : Option A) → option_map f o ≡ N
 none_made f None e = refl
 none_made f (Some x) e = absurd cc
 
-one : {A : Type 0} (make : A → PgWireBackendMessage) (byte limit : ℕ) (read : List ℕ → Result A PgWireError) → Waits (λ bytes. as_one_of make (front_by (Typed byte) limit read bytes))
+one : {A : Type 0} (make : A → PgWireBackendMessage) (byte limit : ℕ) (read : List ℕ → Result A PgWireError)
+    → Waits (λ bytes. as_one_of make (front_by (Typed byte) limit read bytes))
 one {A} make byte limit read bytes e =
     let f : A × List ℕ → PgWireBackendMessage × List ℕ = λ x. (make x.0, x.1) in
     let s = bind_ok (front_by (Typed byte) limit read bytes) (λ o. Ok (option_map f o)) None e in
     let none : option_map f s.0 ≡ None = cc (s.2) in
     front_waits byte limit read bytes (s.1 ∙ ap Ok (none_made f s.0 none))
 
-choice : (b : Bool) (p q : List ℕ → Result (Option (PgWireBackendMessage × List ℕ)) PgWireError) → Waits p → Waits q → Waits (λ bytes. cond b (p bytes) (q bytes))
+choice : (b : Bool) (p q : List ℕ → Result (Option (PgWireBackendMessage × List ℕ)) PgWireError) → Waits p
+    → Waits q → Waits (λ bytes. cond b (p bytes) (q bytes))
 choice true p q hp hq = hp
 choice false p q hp hq = hq
 
@@ -103,7 +107,8 @@ typed_waits ctx a e = elim (chosen (ltb (length a) 2) _ _ _ e) [
   | inr h ↦ by_waits (get_or a 0 0) ctx a h.1
 ]
 
-more_part : (bytes : List ℕ) (r : Result (Option (PgWireBackendMessage × List ℕ)) PgWireError) → front_of bytes r ≡ More → r ≡ Ok None
+more_part : (bytes : List ℕ) (r : Result (Option (PgWireBackendMessage × List ℕ)) PgWireError)
+    → front_of bytes r ≡ More → r ≡ Ok None
 more_part bytes (Err e) is = absurd cc
 more_part bytes (Ok None) is = refl
 more_part bytes (Ok (Some x)) is = absurd cc
@@ -111,4 +116,5 @@ more_part bytes (Ok (Some x)) is = absurd cc
 -- where more bytes are needed, there are fewer than the message at the front has, or than its length field ends with
 pub more_waits : (v : ProtocolVersion) (bytes : List ℕ) → front v bytes ≡ More → length bytes < awaited bytes
 unfolding front backend_front
-more_waits v bytes is = typed_waits (typed_phase v) bytes (more_part bytes (backend_front (typed_phase v) bytes) is)
+more_waits v bytes is =
+    typed_waits (typed_phase v) bytes (more_part bytes (backend_front (typed_phase v) bytes) is)

@@ -21,12 +21,18 @@ use Rattle.pgw_client_calls.specs.Reading.{LineGoesOn, LineGrows, MeetsLinkEnd, 
 -- ---- bytes behind others
 
 -- a message at the front stays there, whatever follows
-pub next_more : (c : Client) (bytes rest more : List ℕ) (m : Backend) → Next c bytes m rest → Next c (bytes ++ more) m (rest ++ more)
+pub next_more : (c : Client) (bytes rest more : List ℕ) (m : Backend) → Next c bytes m rest
+    → Next c (bytes ++ more) m (rest ++ more)
 next_more c bytes rest more m n =
-    let len = n.0 in
-    (len, front_whole_more c.protocol_version bytes more m len n.1, ap (λ (r : List ℕ). r ++ more) n.2 ∙ sym (drop-append-le len bytes more (front_whole c.protocol_version bytes m len n.1).1))
+    let len = n.0 in (
+      len,
+      front_whole_more c.protocol_version bytes more m len n.1,
+      ap (λ (r : List ℕ). r ++ more) n.2
+          ∙ sym (drop-append-le len bytes more (front_whole c.protocol_version bytes m len n.1).1),
+    )
 
-pub drew_on : (old mid new : Line) (piece taken : List ℕ) → Drew old mid piece → Drew mid new taken → Drew old new (piece ++ taken)
+pub drew_on : (old mid new : Line) (piece taken : List ℕ) → Drew old mid piece → Drew mid new taken
+    → Drew old new (piece ++ taken)
 drew_on old mid new piece taken a b = record {
   took = b.took ∙ ap (λ (l : List ℕ). l ++ taken) a.took ∙ append_assoc old.tape.took piece taken;
   wrote = b.wrote ∙ a.wrote;
@@ -40,8 +46,10 @@ pub pieces : (was now piece taken : List ℕ) → now ≡ was ++ piece → now +
 pieces was now piece taken is = ap (λ (b : List ℕ). b ++ taken) is ∙ append_assoc was piece taken
 
 -- nothing was read
-pub drew_none : (t : Tape) (faults : ℕ) (was now : List ℕ) (read limit : ℕ) → Drew (line t faults was read limit) (line t faults now read limit) []
-drew_none t faults was now read limit = record { took = sym (append-nil t.took); wrote = refl; flushed = refl; read = omega arith; limit = refl }
+pub drew_none : (t : Tape) (faults : ℕ) (was now : List ℕ) (read limit : ℕ)
+    → Drew (line t faults was read limit) (line t faults now read limit) []
+drew_none t faults was now read limit =
+    record { took = sym (append-nil t.took); wrote = refl; flushed = refl; read = omega arith; limit = refl }
 
 -- where the end was not answered, nothing is to be said
 pub not_halted : (c : Client) (flushed : ℕ) (old new : Line) → NotEnded old new → Halts c flushed old new
@@ -72,7 +80,8 @@ at_end_so fact also old new so (inr x) = inr (so x)
 pub still_flushed : (old new : Line) (taken : List ℕ) → Drew old new taken → IsFlushed old → IsFlushed new
 still_flushed old new taken d f = d.flushed ∙ f ∙ ap length (sym d.wrote)
 
-pub drew_well : (old new : Line) (taken : List ℕ) → Drew old new taken → new.faults ≡ old.faults → WentWell old new
+pub drew_well : (old new : Line) (taken : List ℕ) → Drew old new taken → new.faults ≡ old.faults
+    → WentWell old new
 drew_well old new taken d calm = (calm, λ f. still_flushed old new taken d f)
 
 pub well_still : (old : Line) → WentWell old old
@@ -92,7 +101,8 @@ end_well A old new f (inl w) = inl (w.0, w.1 f)
 end_well A old new f (inr x) = inr x
 
 -- no call failed up to there, and from there on all went well
-pub ended_on : (A : Type 0) (old mid new : Line) → mid.faults ≡ old.faults → EndedWell mid new ⊎ A → EndedWell old new ⊎ A
+pub ended_on : (A : Type 0) (old mid new : Line) → mid.faults ≡ old.faults → EndedWell mid new ⊎ A
+    → EndedWell old new ⊎ A
 ended_on A old mid new calm (inl w) = inl (w.0 ∙ calm, w.1)
 ended_on A old mid new calm (inr x) = inr x
 
@@ -105,7 +115,8 @@ pub io_of : (A W : Type 0) (e : ClientError) → W ⊎ (failed A e ≡ Err clien
 io_of A W e (inl w) = inl w
 io_of A W e (inr is) = inr cc
 
-pub io_answer : (A W : Type 0) (e : ClientError) → W ⊎ (e ≡ client.IoError) → W ⊎ (failed A e ≡ Err client.IoError)
+pub io_answer : (A W : Type 0) (e : ClientError) → W ⊎ (e ≡ client.IoError)
+    → W ⊎ (failed A e ≡ Err client.IoError)
 io_answer A W e (inl w) = inl w
 io_answer A W e (inr is) = inr (ap (failed A) is)
 
@@ -115,44 +126,60 @@ io_answer A W e (inr is) = inr (ap (failed A) is)
 pub pause_on : (old mid new : Line) → LineGoesOn old mid → Pause mid new ≡ Pause old new
 pause_on old mid new g = rw (g.0, g.1) refl
 
-found_as : (c : Client) (P Q : Reasons) (bytes other rest : List ℕ) (r : Result Backend ClientError) → P ≡ Q → bytes ≡ other →
+found_as : (c : Client) (P Q : Reasons) (bytes other rest : List ℕ) (r : Result Backend ClientError) → P ≡ Q
+    → bytes ≡ other →
     NextOrLack P c bytes r rest → NextOrLack Q c other r rest
 found_as c P Q bytes other rest r why same f =
-    subst (λ (p : Reasons). NextOrLack p c other r rest) why (subst (λ (b : List ℕ). NextOrLack P c b r rest) same f)
+    subst (λ (p : Reasons). NextOrLack p c other r rest) why
+    (subst (λ (b : List ℕ). NextOrLack P c b r rest) same f)
 
 -- more bytes came, and then a message
-pub came_on : (c : Client) (old mid new : Line) (r : Result Backend ClientError) → LineGrows old mid → MessageCame c mid new r → MessageCame c old new r
+pub came_on : (c : Client) (old mid new : Line) (r : Result Backend ClientError) → LineGrows old mid
+    → MessageCame c mid new r → MessageCame c old new r
 came_on c old mid new r grew came = record {
   taken = grew.piece ++ came.taken;
   drew = drew_on old mid new grew.piece came.taken grew.drew came.drew;
-  found = found_as c (Pause mid new) (Pause old new) (mid.buffer ++ came.taken) (old.buffer ++ (grew.piece ++ came.taken)) new.buffer r
-      (pause_on old mid new grew.goes_on) (pieces old.buffer mid.buffer grew.piece came.taken grew.buffer) came.found;
+  found =
+      found_as c (Pause mid new) (Pause old new) (mid.buffer ++ came.taken)
+      (old.buffer ++ (grew.piece ++ came.taken)) new.buffer r
+      (pause_on old mid new grew.goes_on) (pieces old.buffer mid.buffer grew.piece came.taken grew.buffer)
+      came.found;
   halts = halts_on c mid.tape.flushed old.tape.flushed old mid new grew.goes_on.0 grew.drew.flushed came.halts;
   at_end = at_end_on _ _ old mid new grew.goes_on.0 (λ is. is) came.at_end;
-  goes_on = on_ok_weaker r (λ (g : LineGoesOn mid new). (g.0 ∙ grew.goes_on.0, g.1 ∙ grew.goes_on.1)) came.goes_on;
-  well = went_on (r ≡ Err client.IoError) old mid new (drew_well old mid grew.piece grew.drew grew.goes_on.1) came.well;
+  goes_on =
+      on_ok_weaker r (λ (g : LineGoesOn mid new). (g.0 ∙ grew.goes_on.0, g.1 ∙ grew.goes_on.1)) came.goes_on;
+  well = went_on (r ≡ Err client.IoError) old mid new (drew_well old mid grew.piece grew.drew grew.goes_on.1)
+      came.well;
 }
 
 -- it stands in the buffer
-pub came_whole : (c : Client) (t : Tape) (faults : ℕ) (was now : List ℕ) (read limit : ℕ) (m : Backend) → Decoded c.protocol_version was now (Ok (Some m)) → MessageCame c (line t faults was read limit) (line t faults now read limit) (Ok m)
+pub came_whole : (c : Client) (t : Tape) (faults : ℕ) (was now : List ℕ) (read limit : ℕ) (m : Backend)
+    → Decoded c.protocol_version was now (Ok (Some m))
+    → MessageCame c (line t faults was read limit) (line t faults now read limit) (Ok m)
 came_whole c t faults was now read limit m d = record {
   taken = [];
   drew = drew_none t faults was now read limit;
   found = subst (λ (b : List ℕ). Next c b m now) (sym (append-nil was)) d;
   halts = not_halted c t.flushed (line t faults was read limit) (line t faults now read limit) refl;
-  at_end = not_at_end (Ok m ≡ Err client.UnexpectedEOF) (line t faults was read limit) (line t faults now read limit) refl;
+  at_end =
+      not_at_end (Ok m ≡ Err client.UnexpectedEOF) (line t faults was read limit) (line t faults now read limit)
+      refl;
   goes_on = (refl, refl);
   well = inl (refl, λ f. f);
 }
 
-lack_of : (P : Reasons) (c : Client) (bytes rest : List ℕ) (e : ClientError) → Decoded c.protocol_version bytes rest (Err e) → Lack P c bytes rest e
+lack_of : (P : Reasons) (c : Client) (bytes rest : List ℕ) (e : ClientError)
+    → Decoded c.protocol_version bytes rest (Err e) → Lack P c bytes rest e
 lack_of P c bytes rest client.OutOfMemory d = lack_starves rest
 lack_of P c bytes rest e d =
     let bad = d.1 (λ is. cc) in
-    subst (λ (x : ClientError). Lack P c bytes rest x) (sym bad.2) (subst (λ (b : List ℕ). Lack P c bytes b (client.PgWireError bad.0)) (sym d.0) (unread bad.0 bad.1))
+    subst (λ (x : ClientError). Lack P c bytes rest x) (sym bad.2)
+    (subst (λ (b : List ℕ). Lack P c bytes b (client.PgWireError bad.0)) (sym d.0) (unread bad.0 bad.1))
 
 -- it cannot be read
-pub came_refused : (c : Client) (t : Tape) (faults : ℕ) (was now : List ℕ) (read limit : ℕ) (e : ClientError) → Decoded c.protocol_version was now (Err e) → MessageCame c (line t faults was read limit) (line t faults now read limit) (Err e)
+pub came_refused : (c : Client) (t : Tape) (faults : ℕ) (was now : List ℕ) (read limit : ℕ) (e : ClientError)
+    → Decoded c.protocol_version was now (Err e)
+    → MessageCame c (line t faults was read limit) (line t faults now read limit) (Err e)
 came_refused c t faults was now read limit e d =
     let new = line t faults now read limit in
     let P = Pause (line t faults was read limit) new in
@@ -167,11 +194,14 @@ came_refused c t faults was now read limit e d =
     }
 
 -- no more bytes came
-lack_more : (P : Reasons) (c : Client) (was now : List ℕ) (e : ClientError) → front c.protocol_version was ≡ More → now ≡ was → P.halts e → Lack P c (was ++ []) now e
+lack_more : (P : Reasons) (c : Client) (was now : List ℕ) (e : ClientError) → front c.protocol_version was ≡ More
+    → now ≡ was → P.halts e → Lack P c (was ++ []) now e
 lack_more P c was now e more same why =
-    subst (λ (b : List ℕ). Lack P c b now e) (sym (append-nil was)) (subst (λ (b : List ℕ). Lack P c was b e) (sym same) (halts e more why))
+    subst (λ (b : List ℕ). Lack P c b now e) (sym (append-nil was))
+    (subst (λ (b : List ℕ). Lack P c was b e) (sym same) (halts e more why))
 
-pub came_ended : (c : Client) (old new : Line) → front c.protocol_version old.buffer ≡ More → MeetsLinkEnd old new → MessageCame c old new (Err client.UnexpectedEOF)
+pub came_ended : (c : Client) (old new : Line) → front c.protocol_version old.buffer ≡ More → MeetsLinkEnd old new
+    → MessageCame c old new (Err client.UnexpectedEOF)
 came_ended c old new more e = record {
   taken = [];
   drew = e.drew;
@@ -193,7 +223,8 @@ came_lost c old new l = record {
   well = inl (drew_well old new l.piece l.drew l.faults);
 }
 
-came_failed : (c : Client) (old new : Line) → front c.protocol_version old.buffer ≡ More → LinkReadFails old new → MessageCame c old new (Err client.IoError)
+came_failed : (c : Client) (old new : Line) → front c.protocol_version old.buffer ≡ More → LinkReadFails old new
+    → MessageCame c old new (Err client.IoError)
 came_failed c old new more f = record {
   taken = [];
   drew = f.drew;
@@ -204,7 +235,8 @@ came_failed c old new more f = record {
   well = inr refl;
 }
 
-came_limited : (c : Client) (old : Line) → front c.protocol_version old.buffer ≡ More → old.read ≡ old.limit → MessageCame c old old (Err client.ReadLimit)
+came_limited : (c : Client) (old : Line) → front c.protocol_version old.buffer ≡ More → old.read ≡ old.limit
+    → MessageCame c old old (Err client.ReadLimit)
 came_limited c old more at = record {
   taken = [];
   drew = drew_none old.tape old.faults old.buffer old.buffer old.read old.limit;
@@ -215,33 +247,43 @@ came_limited c old more at = record {
   well = inl (well_still old);
 }
 
-pub came_unread : (c : Client) (old new : Line) (e : ClientError) → front c.protocol_version old.buffer ≡ More → ReadOnce old new (Err e) → MessageCame c old new (Err e)
+pub came_unread : (c : Client) (old new : Line) (e : ClientError) → front c.protocol_version old.buffer ≡ More
+    → ReadOnce old new (Err e) → MessageCame c old new (Err e)
 came_unread c old new client.OutOfMemory more r = came_lost c old new r
 came_unread c old new client.IoError more r = came_failed c old new more r
-came_unread c old new client.ReadLimit more r = subst (λ (l : Line). MessageCame c old l (Err client.ReadLimit)) (sym r.0) (came_limited c old more r.1)
+came_unread c old new client.ReadLimit more r =
+    subst (λ (l : Line). MessageCame c old l (Err client.ReadLimit)) (sym r.0) (came_limited c old more r.1)
 came_unread c old new e more r = absurd r
 
 -- ---- messages passed over
 
-pub passing_as : (P Q : Reasons) (e x : ClientError) (c last : Client) (bytes left : List ℕ) (broken : Bool) → P ≡ Q →
+pub passing_as : (P Q : Reasons) (e x : ClientError) (c last : Client) (bytes left : List ℕ) (broken : Bool)
+    → P ≡ Q →
     Passing P e c bytes x last left broken → Passing Q e c bytes x last left broken
-passing_as P Q e x c last bytes left broken why d = subst (λ (p : Reasons). Passing p e c bytes x last left broken) why d
+passing_as P Q e x c last bytes left broken why d =
+    subst (λ (p : Reasons). Passing p e c bytes x last left broken) why d
 
 abbrev pub PassedEnd : ClientError → ClientError → Bool → Type 0
 PassedEnd e x broken = (broken ≡ true) × ((x ≡ e) ⊎ ((e ≡ client.UnexpectedEOF) × (is_remote x ≡ true)))
 
 -- the error behind a message is the one before it, or the server's first
-first_cases : (e : ClientError) (m : Backend) → (first_error_of e m ≡ e) ⊎ ((e ≡ client.UnexpectedEOF) × (passes (first_error_of e m) ≡ true) × IsCaused (first_error_of e m) 0 0 false)
+first_cases : (e : ClientError) (m : Backend)
+    → (first_error_of e m ≡ e)
+    ⊎ ((e ≡ client.UnexpectedEOF) × (passes (first_error_of e m) ≡ true) × IsCaused (first_error_of e m) 0 0
+    false)
 first_cases client.UnexpectedEOF (backend.ErrorResponse m) = inr (refl, refl, tt)
 first_cases client.UnexpectedEOF m = inl refl
 first_cases e m = inl refl
 
-remote_cases : (e : ClientError) (m : Backend) → (first_error_of e m ≡ e) ⊎ ((e ≡ client.UnexpectedEOF) × (is_remote (first_error_of e m) ≡ true))
+remote_cases : (e : ClientError) (m : Backend)
+    → (first_error_of e m ≡ e) ⊎ ((e ≡ client.UnexpectedEOF) × (is_remote (first_error_of e m) ≡ true))
 remote_cases client.UnexpectedEOF (backend.ErrorResponse m) = inr (refl, refl)
 remote_cases client.UnexpectedEOF m = inl refl
 remote_cases e m = inl refl
 
-first_stays : (e x : ClientError) (m : Backend) → (x ≡ first_error_of e m) ⊎ ((first_error_of e m ≡ client.UnexpectedEOF) × (is_remote x ≡ true)) → (x ≡ e) ⊎ ((e ≡ client.UnexpectedEOF) × (is_remote x ≡ true))
+first_stays : (e x : ClientError) (m : Backend)
+    → (x ≡ first_error_of e m) ⊎ ((first_error_of e m ≡ client.UnexpectedEOF) × (is_remote x ≡ true))
+    → (x ≡ e) ⊎ ((e ≡ client.UnexpectedEOF) × (is_remote x ≡ true))
 first_stays e x m (inl is) = elim (remote_cases e m) [
   | inl same ↦ inl (is ∙ same)
   | inr other ↦ inr (other.0, ap is_remote is ∙ other.1)
@@ -252,22 +294,35 @@ first_stays e x m (inr none) = elim (remote_cases e m) [
 ]
 
 -- one message more is passed over
-pub passed_on : (e x : ClientError) (c last : Client) (old mid new : Line) (m : Backend) (broken : Bool) → MessageCame c old mid (Ok m) → is_ready m ≡ false → PassedOver (first_error_of e m) (client_after m c) mid new x last broken → PassedOver e c old new x last broken
+pub passed_on : (e x : ClientError) (c last : Client) (old mid new : Line) (m : Backend) (broken : Bool)
+    → MessageCame c old mid (Ok m) → is_ready m ≡ false
+    → PassedOver (first_error_of e m) (client_after m c) mid new x last broken
+    → PassedOver e c old new x last broken
 passed_on e x c last old mid new m broken came quiet p =
     let more = next_more c (old.buffer ++ came.taken) mid.buffer p.taken m came.found in
-    let next = subst (λ (b : List ℕ). Next c b m (mid.buffer ++ p.taken)) (append_assoc old.buffer came.taken p.taken) more in
+    let next =
+    subst (λ (b : List ℕ). Next c b m (mid.buffer ++ p.taken)) (append_assoc old.buffer came.taken p.taken)
+    more in
     record {
       taken = came.taken ++ p.taken;
       drew = drew_on old mid new came.taken p.taken came.drew p.drew;
-      passing = goes e c (old.buffer ++ (came.taken ++ p.taken)) m (mid.buffer ++ p.taken) x last new.buffer broken next quiet
-          (passing_as (Pause mid new) (Pause old new) (first_error_of e m) x (client_after m c) last (mid.buffer ++ p.taken) new.buffer broken
+      passing =
+          goes e c (old.buffer ++ (came.taken ++ p.taken)) m (mid.buffer ++ p.taken) x last new.buffer broken next
+          quiet
+          (passing_as (Pause mid new) (Pause old new) (first_error_of e m) x (client_after m c) last
+          (mid.buffer ++ p.taken) new.buffer broken
           (pause_on old mid new came.goes_on) p.passing);
-      halts = halts_on last mid.tape.flushed old.tape.flushed old mid new came.goes_on.0 came.drew.flushed p.halts;
-      at_end = at_end_on _ _ old mid new came.goes_on.0 (λ (h : PassedEnd (first_error_of e m) x broken). (h.0, first_stays e x m h.1)) p.at_end;
-      well = went_on (x ≡ client.IoError) old mid new (drew_well old mid came.taken came.drew came.goes_on.1) p.well;
+      halts =
+          halts_on last mid.tape.flushed old.tape.flushed old mid new came.goes_on.0 came.drew.flushed p.halts;
+      at_end =
+          at_end_on _ _ old mid new came.goes_on.0
+          (λ (h : PassedEnd (first_error_of e m) x broken). (h.0, first_stays e x m h.1)) p.at_end;
+      well = went_on (x ≡ client.IoError) old mid new (drew_well old mid came.taken came.drew came.goes_on.1)
+          p.well;
     }
 
-pub passed_all : (e : ClientError) (c : Client) (old new : Line) (m : Backend) → MessageCame c old new (Ok m) → is_ready m ≡ true → PassedOver e c old new e (client_after m c) false
+pub passed_all : (e : ClientError) (c : Client) (old new : Line) (m : Backend) → MessageCame c old new (Ok m)
+    → is_ready m ≡ true → PassedOver e c old new e (client_after m c) false
 passed_all e c old new m came ready = record {
   taken = came.taken;
   drew = came.drew;
@@ -282,17 +337,22 @@ io_in_place : (W : Type 0) (e x : ClientError) → W ⊎ (x ≡ client.IoError) 
 io_in_place W e x (inl w) = inl w
 io_in_place W e x (inr is) = inr (ap (in_place_of e) is)
 
-pub passed_none : (e x : ClientError) (c : Client) (old new : Line) → MessageCame c old new (Err x) → PassedOver e c old new (in_place_of e x) c true
+pub passed_none : (e x : ClientError) (c : Client) (old new : Line) → MessageCame c old new (Err x)
+    → PassedOver e c old new (in_place_of e x) c true
 passed_none e x c old new came = record {
   taken = came.taken;
   drew = came.drew;
   passing = lacks e c (old.buffer ++ came.taken) new.buffer x came.found;
   halts = came.halts;
-  at_end = at_end_so _ _ old new (λ (same : failed Backend x ≡ Err client.UnexpectedEOF). (refl, inl (let is : x ≡ client.UnexpectedEOF = (cc) in ap (in_place_of e) is))) came.at_end;
+  at_end =
+      at_end_so _ _ old new
+      (λ (same : failed Backend x ≡ Err client.UnexpectedEOF).
+      (refl, inl (let is : x ≡ client.UnexpectedEOF = (cc) in ap (in_place_of e) is))) came.at_end;
   well = io_in_place (WentWell old new) e x (io_of Backend (WentWell old new) x came.well);
 }
 
-pub passed_starved : (e : ClientError) (c : Client) (old new : Line) (m : Backend) → MessageCame c old new (Ok m) → PassedOver e c old new client.OutOfMemory c true
+pub passed_starved : (e : ClientError) (c : Client) (old new : Line) (m : Backend) → MessageCame c old new (Ok m)
+    → PassedOver e c old new client.OutOfMemory c true
 passed_starved e c old new m came = record {
   taken = came.taken;
   drew = came.drew;
@@ -303,7 +363,8 @@ passed_starved e c old new m came = record {
 }
 
 -- what is taken is gone from the buffer
-pub taken_shrinks : (v : ProtocolVersion) (was now : List ℕ) (m : Backend) → Decoded v was now (Ok (Some m)) → length now < length was
+pub taken_shrinks : (v : ProtocolVersion) (was now : List ℕ) (m : Backend) → Decoded v was now (Ok (Some m))
+    → length now < length was
 taken_shrinks v was now m d =
     let w = front_whole v was m d.0 d.1 in
     let size : length now ≡ length (drop d.0 was) = ap length d.2 in
@@ -321,31 +382,44 @@ caused_from client.Broken before now c = absurd (let no : false ≡ true = c in 
 caused_from e before now c = tt
 
 -- the same behind a look at the buffer, which took nothing
-pub came_after : (c also : Client) (t : Tape) (faults : ℕ) (was now : List ℕ) (read limit : ℕ) (mid final : Line) (r : Result Backend ClientError) → now ≡ was → also ≡ c
-    → LineGrows (line t faults now read limit) mid → MessageCame also mid final r → MessageCame c (line t faults was read limit) final r
+pub came_after : (c also : Client) (t : Tape) (faults : ℕ) (was now : List ℕ) (read limit : ℕ) (mid final : Line)
+    (r : Result Backend ClientError)
+    → now ≡ was → also ≡ c
+    → LineGrows (line t faults now read limit) mid → MessageCame also mid final r
+    → MessageCame c (line t faults was read limit) final r
 came_after c also t faults was now read limit mid final r same client grew came =
     subst (λ (x : Client). MessageCame x (line t faults was read limit) final r) client
-    (subst (λ (b : List ℕ). MessageCame also (line t faults b read limit) final r) same (came_on also (line t faults now read limit) mid final r grew came))
+    (subst (λ (b : List ℕ). MessageCame also (line t faults b read limit) final r) same
+    (came_on also (line t faults now read limit) mid final r grew came))
 
-pub ended_after : (c : Client) (t : Tape) (faults : ℕ) (was now : List ℕ) (read limit : ℕ) (new : Line) → now ≡ was → front c.protocol_version was ≡ More
-    → MeetsLinkEnd (line t faults now read limit) new → MessageCame c (line t faults was read limit) new (Err client.UnexpectedEOF)
+pub ended_after : (c : Client) (t : Tape) (faults : ℕ) (was now : List ℕ) (read limit : ℕ) (new : Line)
+    → now ≡ was → front c.protocol_version was ≡ More
+    → MeetsLinkEnd (line t faults now read limit) new
+    → MessageCame c (line t faults was read limit) new (Err client.UnexpectedEOF)
 ended_after c t faults was now read limit new same more e =
-    came_ended c (line t faults was read limit) new more (subst (λ (b : List ℕ). MeetsLinkEnd (line t faults b read limit) new) same e)
+    came_ended c (line t faults was read limit) new more
+    (subst (λ (b : List ℕ). MeetsLinkEnd (line t faults b read limit) new) same e)
 
-pub unread_after : (c : Client) (t : Tape) (faults : ℕ) (was now : List ℕ) (read limit : ℕ) (new : Line) (e : ClientError) → now ≡ was → front c.protocol_version was ≡ More
-    → ReadOnce (line t faults now read limit) new (Err e) → MessageCame c (line t faults was read limit) new (Err e)
+pub unread_after : (c : Client) (t : Tape) (faults : ℕ) (was now : List ℕ) (read limit : ℕ) (new : Line)
+    (e : ClientError)
+    → now ≡ was → front c.protocol_version was ≡ More
+    → ReadOnce (line t faults now read limit) new (Err e)
+    → MessageCame c (line t faults was read limit) new (Err e)
 unread_after c t faults was now read limit new e same more r =
-    came_unread c (line t faults was read limit) new e more (subst (λ (b : List ℕ). ReadOnce (line t faults b read limit) new (Err e)) same r)
+    came_unread c (line t faults was read limit) new e more
+    (subst (λ (b : List ℕ). ReadOnce (line t faults b read limit) new (Err e)) same r)
 
 -- ---- one turn of passing over
 
-pub first_caused : (e r : ClientError) (m : Backend) → r ≡ first_error_of e m → IsCaused e 0 0 false → IsCaused r 0 0 false
+pub first_caused : (e r : ClientError) (m : Backend) → r ≡ first_error_of e m → IsCaused e 0 0 false
+    → IsCaused r 0 0 false
 first_caused e r m is own = subst (λ (x : ClientError). IsCaused x 0 0 false) (sym is) (elim (first_cases e m) [
   | inl same ↦ subst (λ (x : ClientError). IsCaused x 0 0 false) (sym same) own
   | inr other ↦ other.2
 ])
 
-pub first_same : (e first r : ClientError) (m : Backend) → r ≡ first_error_of e m → (e ≡ first) ⊎ (passes e ≡ true) → (r ≡ first) ⊎ (passes r ≡ true)
+pub first_same : (e first r : ClientError) (m : Backend) → r ≡ first_error_of e m
+    → (e ≡ first) ⊎ (passes e ≡ true) → (r ≡ first) ⊎ (passes r ≡ true)
 first_same e first r m is (inl same) = elim (first_cases e m) [
   | inl stays ↦ inl (is ∙ stays ∙ same)
   | inr other ↦ inr (ap passes is ∙ other.1)
@@ -355,7 +429,8 @@ first_same e first r m is (inr good) = elim (first_cases e m) [
   | inr other ↦ inr (ap passes is ∙ other.1)
 ]
 
-pub first_remote : (e first r : ClientError) (m : Backend) → r ≡ first_error_of e m → (e ≡ first) ⊎ (is_remote e ≡ true) → (r ≡ first) ⊎ (is_remote r ≡ true)
+pub first_remote : (e first r : ClientError) (m : Backend) → r ≡ first_error_of e m
+    → (e ≡ first) ⊎ (is_remote e ≡ true) → (r ≡ first) ⊎ (is_remote r ≡ true)
 first_remote e first r m is (inl same) = elim (remote_cases e m) [
   | inl stays ↦ inl (is ∙ stays ∙ same)
   | inr other ↦ inr (ap is_remote is ∙ other.1)
@@ -365,24 +440,38 @@ first_remote e first r m is (inr good) = elim (remote_cases e m) [
   | inr other ↦ inr (ap is_remote is ∙ other.1)
 ]
 
-pub passed_failed : (e x r : ClientError) (c also : Client) (old new : Line) → MessageCame c old new (Err x) → r ≡ in_place_of e x → also ≡ c → PassedOver e c old new r also true
+pub passed_failed : (e x r : ClientError) (c also : Client) (old new : Line) → MessageCame c old new (Err x)
+    → r ≡ in_place_of e x → also ≡ c → PassedOver e c old new r also true
 passed_failed e x r c also old new came is same =
-    subst (λ (y : ClientError). PassedOver e c old new y also true) (sym is) (subst (λ (y : Client). PassedOver e c old new (in_place_of e x) y true) (sym same) (passed_none e x c old new came))
+    subst (λ (y : ClientError). PassedOver e c old new y also true) (sym is)
+    (subst (λ (y : Client). PassedOver e c old new (in_place_of e x) y true) (sym same)
+    (passed_none e x c old new came))
 
-pub passed_ready : (e r : ClientError) (m : Backend) (c also after : Client) (old new : Line) (broken : Bool) → MessageCame c old new (Ok m) → is_ready m ≡ true → r ≡ first_error_of e m → also ≡ c → after ≡ client_after m also → broken ≡ false → PassedOver e c old new r after broken
+pub passed_ready : (e r : ClientError) (m : Backend) (c also after : Client) (old new : Line) (broken : Bool)
+    → MessageCame c old new (Ok m) → is_ready m ≡ true → r ≡ first_error_of e m → also ≡ c
+    → after ≡ client_after m also → broken ≡ false → PassedOver e c old new r after broken
 passed_ready e r m c also after old new broken came ready is same tells usable =
     subst (λ (y : ClientError). PassedOver e c old new y after broken) (sym (is ∙ ready_first e m ready))
     (subst (λ (y : Client). PassedOver e c old new e y broken) (sym (tells ∙ ap (client_after m) same))
-    (subst (λ (b : Bool). PassedOver e c old new e (client_after m c) b) (sym usable) (passed_all e c old new m came ready)))
+    (subst (λ (b : Bool). PassedOver e c old new e (client_after m c) b) (sym usable)
+    (passed_all e c old new m came ready)))
 
-pub passed_wanting : (e : ClientError) (m : Backend) (c after : Client) (old new : Line) → MessageCame c old new (Ok m) → after ≡ c → PassedOver e c old new client.OutOfMemory after true
-passed_wanting e m c after old new came same = subst (λ (y : Client). PassedOver e c old new client.OutOfMemory y true) (sym same) (passed_starved e c old new m came)
+pub passed_wanting : (e : ClientError) (m : Backend) (c after : Client) (old new : Line)
+    → MessageCame c old new (Ok m) → after ≡ c → PassedOver e c old new client.OutOfMemory after true
+passed_wanting e m c after old new came same =
+    subst (λ (y : Client). PassedOver e c old new client.OutOfMemory y true) (sym same)
+    (passed_starved e c old new m came)
 
-pub passed_after : (e r x : ClientError) (m : Backend) (c also after last : Client) (old mid new : Line) (broken : Bool) → MessageCame c old mid (Ok m) → is_ready m ≡ false → r ≡ first_error_of e m → also ≡ c → after ≡ client_after m also
+pub passed_after : (e r x : ClientError) (m : Backend) (c also after last : Client) (old mid new : Line)
+    (broken : Bool)
+    → MessageCame c old mid (Ok m) → is_ready m ≡ false → r ≡ first_error_of e m → also ≡ c
+    → after ≡ client_after m also
     → PassedOver r after mid new x last broken → PassedOver e c old new x last broken
 passed_after e r x m c also after last old mid new broken came quiet is same tells p =
     passed_on e x c last old mid new m broken came quiet
-    (subst (λ (y : ClientError). PassedOver y (client_after m c) mid new x last broken) is (subst (λ (y : Client). PassedOver r y mid new x last broken) (tells ∙ ap (client_after m) same) p))
+    (subst (λ (y : ClientError). PassedOver y (client_after m c) mid new x last broken) is
+    (subst (λ (y : Client). PassedOver r y mid new x last broken) (tells
+    ∙ ap (client_after m) same) p))
 
 -- no bytes are no message
 pub polled_empty : (v : ProtocolVersion) (bytes : List ℕ) → length bytes ≡ 0 → front v bytes ≡ More

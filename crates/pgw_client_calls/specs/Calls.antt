@@ -35,7 +35,8 @@ pub record KeptRest : Type 0 where
 
 -- what is seen of a client over its link
 abbrev pub link_sight : Client → Tape → Bool → Sight
-link_sight c tape broken = record { client = c; wrote = tape.wrote; flushed = tape.flushed; broken = broken }
+link_sight c tape broken =
+    record { client = c; wrote = tape.wrote; flushed = tape.flushed; broken = broken }
 
 -- what a client tells of itself, by what its link tells
 module _ {X : Type 0} where
@@ -58,7 +59,8 @@ module _ {X : Type 0} where
 -- ---- whether a client can be used behind an answer, told or not
 
 -- behind an error that none of these is, it cannot
-abbrev pub IsUsableAfter : {T : Type 0} → (ClientError → Bool) → Result T ClientError → Bool → Type 0
+abbrev pub IsUsableAfter : {T : Type 0} → (ClientError → Bool) → Result T ClientError → Bool
+    → Type 0
 IsUsableAfter allowed (Ok x) broken = broken ≡ false
 IsUsableAfter allowed (Err e) broken = (broken ≡ true) ⊎ (allowed e ≡ true)
 
@@ -94,26 +96,43 @@ PutsOnLine bytes old new (Err e) = (e ≡ client.IoError) × PutSome bytes old n
 -- ---- the opening of a call
 
 -- What becomes of a handler's opening: `out` is what it sent, and `was` says that memory ran out in that.
-pub data HandlerOpens (was : Bool) (out : List ℕ) (old new : Line) : Result (Unit {0}) ClientError → Result (Unit {0}) ClientError → Bool → Type 0 where
-  starved : (opened : Result (Unit {0}) ClientError) → was ≡ true → new ≡ old → HandlerOpens was out old new opened (Err client.OutOfMemory) true
+pub data HandlerOpens (was : Bool) (out : List ℕ) (old new : Line) : Result (Unit {0}) ClientError
+    → Result (Unit {0}) ClientError → Bool → Type 0 where
+  starved : (opened : Result (Unit {0}) ClientError) → was ≡ true → new ≡ old
+      → HandlerOpens was out old new opened (Err client.OutOfMemory) true
   wrote : was ≡ false → PutAll out old new → HandlerOpens was out old new (Ok tt) (Ok tt) false
-  cut : was ≡ false → PutSome out old new → HandlerOpens was out old new (Ok tt) (Err client.IoError) true
-  refused : (e : ClientError) → was ≡ false → new ≡ old → HandlerOpens was out old new (Err e) (Err e) (not (is_refusal e))
+  cut : was ≡ false → PutSome out old new
+      → HandlerOpens was out old new (Ok tt) (Err client.IoError) true
+  refused : (e : ClientError) → was ≡ false → new ≡ old
+      → HandlerOpens was out old new (Err e) (Err e) (not (is_refusal e))
 
 -- ---- a handler's answer
 
 -- What becomes of a handler's error: `closing` says that it was behind ReadyForQuery.
-pub data GivesUp (goes_on : ClientError → Bool) (closing : Bool) (c : Client) (old new : Line) : ClientError → ClientError → Client → Bool → Type 0 where
-  breaks : (e : ClientError) → goes_on e ≡ false → new ≡ old → GivesUp goes_on closing c old new e e c true
-  fails : (e : ClientError) → goes_on e ≡ true → closing ≡ true → new ≡ old → GivesUp goes_on closing c old new e e c false
-  passes_over : (e x : ClientError) (last : Client) (broken : Bool) → goes_on e ≡ true → closing ≡ false → PassedOver e c old new x last broken → GivesUp goes_on closing c old new e x last broken
+pub data GivesUp (goes_on : ClientError → Bool) (closing : Bool) (c : Client) (old new : Line) :
+    ClientError
+    → ClientError → Client → Bool → Type 0 where
+  breaks : (e : ClientError) → goes_on e ≡ false → new ≡ old
+      → GivesUp goes_on closing c old new e e c true
+  fails : (e : ClientError) → goes_on e ≡ true → closing ≡ true → new ≡ old
+      → GivesUp goes_on closing c old new e e c false
+  passes_over : (e x : ClientError) (last : Client) (broken : Bool) → goes_on e ≡ true
+      → closing ≡ false → PassedOver e c old new x last broken
+      → GivesUp goes_on closing c old new e x last broken
 
 -- What becomes of its answer.
-pub data Follows {T : Type 0} (goes_on : ClientError → Bool) (closing was : Bool) (out : List ℕ) (c : Client) (old new : Line) : CallAnswer T → CallAnswer T → Client → Bool → Type 0 where
-  starves : (answer : CallAnswer T) → was ≡ true → new ≡ old → Follows goes_on closing was out c old new answer (Err client.OutOfMemory) c true
-  writes : (s : ReadyState T) → was ≡ false → PutAll out old new → Follows goes_on closing was out c old new (Ok s) (Ok s) c false
-  cuts : (s : ReadyState T) → was ≡ false → PutSome out old new → Follows goes_on closing was out c old new (Ok s) (Err client.IoError) c true
-  gives_up : (e x : ClientError) (last : Client) (broken : Bool) → was ≡ false → GivesUp goes_on closing c old new e x last broken → Follows goes_on closing was out c old new (Err e) (Err x) last broken
+pub data Follows {T : Type 0} (goes_on : ClientError → Bool) (closing was : Bool) (out : List ℕ)
+    (c : Client) (old new : Line) : CallAnswer T
+    → CallAnswer T → Client → Bool → Type 0 where
+  starves : (answer : CallAnswer T) → was ≡ true → new ≡ old
+      → Follows goes_on closing was out c old new answer (Err client.OutOfMemory) c true
+  writes : (s : ReadyState T) → was ≡ false → PutAll out old new
+      → Follows goes_on closing was out c old new (Ok s) (Ok s) c false
+  cuts : (s : ReadyState T) → was ≡ false → PutSome out old new
+      → Follows goes_on closing was out c old new (Ok s) (Err client.IoError) c true
+  gives_up : (e x : ClientError) (last : Client) (broken : Bool) → was ≡ false
+      → GivesUp goes_on closing c old new e x last broken
+      → Follows goes_on closing was out c old new (Err e) (Err x) last broken
 
 -- ---- messages handed to a handler
 
@@ -124,7 +143,8 @@ IsHalted goes_on (Err client.UnexpectedEOF) broken = broken ≡ true
 IsHalted goes_on (Err e) broken = (goes_on e ≡ true) × (broken ≡ true)
 
 -- a message was heard, what the handler sent was written, and the call goes on
-pub record HeardOne {H A : Type 0} (M : Hearing H A) (h : H) (c : Client) (old new : Line) (handler : H) (info : Client) : Type 0 where
+pub record HeardOne {H A : Type 0} (M : Hearing H A) (h : H) (c : Client) (old new : Line)
+    (handler : H) (info : Client) : Type 0 where
   pub taken : List ℕ
   pub message : Backend
   pub after : HandlerView H
@@ -138,7 +158,8 @@ pub record HeardOne {H A : Type 0} (M : Hearing H A) (h : H) (c : Client) (old n
   pub goes_on : LineGoesOn old new
 
 -- messages were handed over up to the call's end
-pub record TalksToCallEnd {H A : Type 0} (M : Hearing H A) (goes_on : ClientError → Bool) (h : H) (c : Client) (old new : Line) (last : CallEnd A) : Type 0 where
+pub record TalksToCallEnd {H A : Type 0} (M : Hearing H A) (goes_on : ClientError → Bool) (h : H)
+    (c : Client) (old new : Line) (last : CallEnd A) : Type 0 where
   pub taken : List ℕ
   pub sent : List ℕ
   pub moved : MovesLine old new taken sent
@@ -149,18 +170,25 @@ pub record TalksToCallEnd {H A : Type 0} (M : Hearing H A) (goes_on : ClientErro
   pub at_end : AtEnd old new (IsHalted goes_on last.answer last.broken)
 
 -- one message was handed over: the call goes on, or has ended
-abbrev pub HeardNext : {H A : Type 0} → Hearing H A → (ClientError → Bool) → H → Client → Line → Line → H → Client → Bool → CallAnswer A → Type 0
-HeardNext M goes_on h c old new handler info broken (Ok Pending) = HeardOne M h c old new handler info × (broken ≡ false)
-HeardNext M goes_on h c old new handler info broken (Ok (Ready x)) = TalksToCallEnd M goes_on h c old new (end (Ok x) info broken new.buffer)
-HeardNext M goes_on h c old new handler info broken (Err e) = TalksToCallEnd M goes_on h c old new (end (Err e) info broken new.buffer)
+abbrev pub HeardNext : {H A : Type 0} → Hearing H A → (ClientError → Bool) → H → Client → Line
+    → Line → H → Client → Bool → CallAnswer A → Type 0
+HeardNext M goes_on h c old new handler info broken (Ok Pending) =
+    HeardOne M h c old new handler info × (broken ≡ false)
+HeardNext M goes_on h c old new handler info broken (Ok (Ready x)) =
+    TalksToCallEnd M goes_on h c old new (end (Ok x) info broken new.buffer)
+HeardNext M goes_on h c old new handler info broken (Err e) =
+    TalksToCallEnd M goes_on h c old new (end (Err e) info broken new.buffer)
 
 -- the same behind some rows: the call goes on from there as it does from the beginning, or has ended
-abbrev pub HeardOn : {H A : Type 0} → Hearing H A → (ClientError → Bool) → H → Client → Line → Line → H → Client → Bool → CallAnswer A → Type 0
+abbrev pub HeardOn : {H A : Type 0} → Hearing H A → (ClientError → Bool) → H → Client → Line
+    → Line → H → Client → Bool → CallAnswer A → Type 0
 HeardOn {A = A} M goes_on h c old new handler info broken (Ok Pending) =
     ((final : Line) (last : CallEnd A) → TalksToCallEnd M goes_on handler info new final last →
     TalksToCallEnd M goes_on h c old final last) × (broken ≡ false)
-HeardOn M goes_on h c old new handler info broken (Ok (Ready x)) = TalksToCallEnd M goes_on h c old new (end (Ok x) info broken new.buffer)
-HeardOn M goes_on h c old new handler info broken (Err e) = TalksToCallEnd M goes_on h c old new (end (Err e) info broken new.buffer)
+HeardOn M goes_on h c old new handler info broken (Ok (Ready x)) =
+    TalksToCallEnd M goes_on h c old new (end (Ok x) info broken new.buffer)
+HeardOn M goes_on h c old new handler info broken (Err e) =
+    TalksToCallEnd M goes_on h c old new (end (Err e) info broken new.buffer)
 
 -- ---- a call
 
@@ -168,7 +196,9 @@ HeardOn M goes_on h c old new handler info broken (Err e) = TalksToCallEnd M goe
 -- has flushed all that it wrote, that behind any answer but IoError no call of the link failed and all that was written is
 -- flushed, and that the link's end was answered at most once in it: asked for a message that was
 -- awaited, with all flushed, and it is what the call answers, or the error behind which it passed messages over.
-pub record LineCall {H A : Type 0} (opens : HandlerView H → HandlerView H → CallAnswer A → Type 0) (M : Hearing H A) (goes_on : ClientError → Bool) (h : H) (c : Client) (old new : Line) (last : CallEnd A) : Type 0 where
+pub record LineCall {H A : Type 0} (opens : HandlerView H → HandlerView H → CallAnswer A → Type 0)
+    (M : Hearing H A) (goes_on : ClientError → Bool) (h : H) (c : Client) (old new : Line)
+    (last : CallEnd A) : Type 0 where
   pub taken : List ℕ
   pub sent : List ℕ
   pub moved : MovesLine old new taken sent
@@ -182,7 +212,12 @@ pub record LineCall {H A : Type 0} (opens : HandlerView H → HandlerView H → 
 
 -- no message is whole yet, exactly where Pending comes; a message was taken; or the bytes cannot be read, and the client
 -- cannot be used any more
-abbrev pub Polled : ProtocolVersion → List ℕ → List ℕ → Bool → Result (ReadyState Backend) ClientError → Type 0
-Polled version old new broken (Ok Pending) = (front version old ≡ More) × (new ≡ old) × (broken ≡ false)
-Polled version old new broken (Ok (Ready m)) = (len : ℕ) × (front version old ≡ Whole m len) × (new ≡ drop len old) × (broken ≡ false)
-Polled version old new broken (Err e) = Unless e ((why : PgWireError) × (front version old ≡ Bad why) × (e ≡ client.PgWireError why)) × (new ≡ old) × (broken ≡ true)
+abbrev pub Polled : ProtocolVersion → List ℕ → List ℕ → Bool
+    → Result (ReadyState Backend) ClientError → Type 0
+Polled version old new broken (Ok Pending) =
+    (front version old ≡ More) × (new ≡ old) × (broken ≡ false)
+Polled version old new broken (Ok (Ready m)) =
+    (len : ℕ) × (front version old ≡ Whole m len) × (new ≡ drop len old) × (broken ≡ false)
+Polled version old new broken (Err e) =
+    Unless e ((why : PgWireError) × (front version old ≡ Bad why) × (e ≡ client.PgWireError why))
+    × (new ≡ old) × (broken ≡ true)

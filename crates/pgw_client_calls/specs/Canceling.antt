@@ -32,20 +32,24 @@ pub record IsTokenOf (c : Client) (token : CancelToken) : Type 0 where
 -- a link was dialled, these bytes written to it, and the link closed
 abbrev pub SentOnce : Address → List ℕ → DialTape → DialTape → Type 0
 SentOnce address bytes old new =
-    (first : Tape) × (after : Tape) × DialsOnce address old new first after × Wrote first after bytes
+    (first : Tape) × (after : Tape) × DialsOnce address old new first after
+    × Wrote first after bytes
 
 -- a link was dialled, and not all of them were written; or none was dialled
 pub data NotSentOnce (foretells : Type 0) (address : Address) (bytes : List ℕ)
-    (was is : Option (List (List ℕ))) (old new : DialTape) (before now : ℕ) : ClientError → Type 0 where
+    (was is : Option (List (List ℕ))) (old new : DialTape) (before now : ℕ) : ClientError
+    → Type 0 where
   no_link : (e : ClientError) → NoLink foretells address was is old new before now e →
       NotSentOnce foretells address bytes was is old new before now e
-  cut : Rose before now → (first after : Tape) → DialsOnce address old new first after → WroteSome first after bytes →
+  cut : Rose before now → (first after : Tape) → DialsOnce address old new first after
+      → WroteSome first after bytes →
       (foretells → (offer : Option (List ℕ)) × MakesNext was is offer) →
       NotSentOnce foretells address bytes was is old new before now client.IoError
 
 -- What a token's cancel answers: `spelled` is the one message that it sends, and `same` says that the
 -- dialer is as it was.
-pub data Cancels (same foretells : Type 0) (address : Address) (spelled : Result (List ℕ) PgWireError)
+pub data Cancels (same foretells : Type 0) (address : Address)
+    (spelled : Result (List ℕ) PgWireError)
     (was is : Option (List (List ℕ))) (old new : DialTape) (before now : ℕ)
     : Result (Unit {0}) ClientError → Type 0 where
   sent : (bytes : List ℕ) → spelled ≡ Ok bytes → SentOnce address bytes old new → now ≡ before →

@@ -60,44 +60,64 @@ pub record DialsOnce (to : Address) (old new : DialTape) (first after : Tape) : 
 -- ---- a connect
 
 -- a login over a link: it ends with what the server told of itself, which the client takes in, unless memory is wanting
-abbrev pub LogsIn : {S : Type 0} → (HandlerView S → HandlerView S → CallAnswer ServerInformation → Type 0) → Hearing S ServerInformation → S → Client → Line → Line → Client → Result (Unit {0}) ClientError → Type 0
+abbrev pub LogsIn : {S : Type 0}
+    → (HandlerView S → HandlerView S → CallAnswer ServerInformation → Type 0)
+    → Hearing S ServerInformation → S → Client → Line → Line → Client
+    → Result (Unit {0}) ClientError → Type 0
 LogsIn opens M handler c old new info (Ok done) =
-    (information : ServerInformation) × (told : Client) × LineCall opens M goes_on_never handler c old new (end (Ok information) told false new.buffer) × (info ≡ with_information information told)
+    (information : ServerInformation) × (told : Client)
+    × LineCall opens M goes_on_never handler c old new
+    (end (Ok information) told false new.buffer)
+    × (info ≡ with_information information told)
 LogsIn opens M handler c old new info (Err e) =
-    ((last : Client) × (broken : Bool) × LineCall opens M goes_on_never handler c old new (end (Err e) last broken new.buffer)) ⊎
-    ((e ≡ client.OutOfMemory) × (information : ServerInformation) × (told : Client) × LineCall opens M goes_on_never handler c old new (end (Ok information) told false new.buffer))
+    ((last : Client) × (broken : Bool) × LineCall opens M goes_on_never handler c old new
+    (end (Err e) last broken new.buffer)) ⊎
+    ((e ≡ client.OutOfMemory) × (information : ServerInformation) × (told : Client) × LineCall
+    opens M goes_on_never handler c old new (end (Ok information) told false new.buffer))
 
 -- before anything is read or written
 abbrev pub new_line : Tape → ℕ → Line
 new_line tape limit = line tape 0 [] 0 limit
 
 -- a link to the address was dialled, and a login over it ended well
-pub record ConnectedAt {S : Type 0} (opens : HandlerView S → HandlerView S → CallAnswer ServerInformation → Type 0) (M : Hearing S ServerInformation) (handler : S) (config : Config) (limit : ℕ) (address : Address) (old new : DialTape) (info : Client) (now : Line) : Type 0 where
+pub record ConnectedAt {S : Type 0}
+    (opens : HandlerView S → HandlerView S → CallAnswer ServerInformation → Type 0)
+    (M : Hearing S ServerInformation) (handler : S) (config : Config) (limit : ℕ)
+    (address : Address) (old new : DialTape) (info : Client) (now : Line) : Type 0 where
   pub first : Tape
   pub dialled : Dialled address old new first
-  pub logs_in : LogsIn opens M handler (first_client config) (new_line first limit) now info (Ok tt)
+  pub logs_in : LogsIn opens M handler (first_client config) (new_line first limit) now info
+      (Ok tt)
 
 -- the same at the address of the configuration
-abbrev pub Connected : {S : Type 0} → (HandlerView S → HandlerView S → CallAnswer ServerInformation → Type 0) → Hearing S ServerInformation → S → Config → ℕ → DialTape → DialTape → Client → Line → Type 0
-Connected opens M handler config limit old new info now = (address : Address) × LeadsTo config address × ConnectedAt opens M handler config limit address old new info now
+abbrev pub Connected : {S : Type 0}
+    → (HandlerView S → HandlerView S → CallAnswer ServerInformation → Type 0)
+    → Hearing S ServerInformation → S → Config → ℕ → DialTape → DialTape → Client → Line
+    → Type 0
+Connected opens M handler config limit old new info now =
+    (address : Address) × LeadsTo config address
+    × ConnectedAt opens M handler config limit address old new info now
 
 -- a link was dialled, a login over it failed, and the link was closed
 pub record ClosedAgain {S : Type 0} (foretells : Type 0)
     (opens : HandlerView S → HandlerView S → CallAnswer ServerInformation → Type 0)
-    (M : Hearing S ServerInformation) (handler : S) (config : Config) (limit : ℕ) (address : Address)
+    (M : Hearing S ServerInformation) (handler : S) (config : Config) (limit : ℕ)
+    (address : Address)
     (was is : Option (List (List ℕ))) (old new : DialTape) (before now : ℕ) (e : ClientError)
     : Type 0 where
   pub faults : ℕ
   pub counts : CountsClose before now faults
   pub io : e ≡ client.IoError → 0 < faults
-  pub tape : (first : Tape) × (last : Line) × (info : Client) × DialsOnce address old new first last.tape × (last.faults ≡ faults) × (last.read ≤ limit) ×
+  pub tape : (first : Tape) × (last : Line) × (info : Client)
+      × DialsOnce address old new first last.tape × (last.faults ≡ faults) × (last.read ≤ limit) ×
       LogsIn opens M handler (first_client config) (new_line first limit) last info (Err e) ×
       (foretells → (offer left : Option (List ℕ)) × MakesNext was is offer
       × Foretold offer left first last.tape)
 
 -- at an address there was no link, or the login over it failed
 abbrev pub NotConnectedAt : {S : Type 0} → Type 0 →
-    (HandlerView S → HandlerView S → CallAnswer ServerInformation → Type 0) → Hearing S ServerInformation → S →
+    (HandlerView S → HandlerView S → CallAnswer ServerInformation → Type 0)
+    → Hearing S ServerInformation → S →
     Config → ℕ → Address → Option (List (List ℕ)) → Option (List (List ℕ)) → DialTape → DialTape →
     ℕ → ℕ → ClientError → Type 0
 NotConnectedAt foretells opens M handler config limit address was is old new before now e =
@@ -107,23 +127,28 @@ NotConnectedAt foretells opens M handler config limit address was is old new bef
 -- Why a connect was refused: by a demand of the configuration, for want of an address or of memory, and then `same` says
 -- that the dialer is as it was; or it failed at the address.
 abbrev pub NotConnected : {S : Type 0} → Type 0 → Type 0 →
-    (HandlerView S → HandlerView S → CallAnswer ServerInformation → Type 0) → Hearing S ServerInformation → S →
+    (HandlerView S → HandlerView S → CallAnswer ServerInformation → Type 0)
+    → Hearing S ServerInformation → S →
     Config → ℕ → Option (List (List ℕ)) → Option (List (List ℕ)) → DialTape → DialTape → ℕ → ℕ →
     ClientError → Type 0
 NotConnected same foretells opens M handler config limit was is old new before now e =
-    (same × IsRefusedBy (refused_config config) config e) ⊎ ((address : Address) × LeadsTo config address × NotConnectedAt foretells opens M handler config limit address was is old new before now e)
+    (same × IsRefusedBy (refused_config config) config e)
+    ⊎ ((address : Address) × LeadsTo config address × NotConnectedAt foretells opens M handler
+    config limit address was is old new before now e)
 
 -- A client was connected by such a configuration and handler, over a link of this dialer; or why not.
 pub record Connects {Y X S : Type 0} (foretells : Type 0) (offers : Y → Option (List (List ℕ)))
     (dials : Y → DialTape) (failed : Y → ℕ) (left : X → Option (List ℕ)) (tape : X → Tape)
     (faults : X → ℕ) (exchanges : S → Bool)
-    (M : HandlerView S → StartupCall → HandlerView S → CallAnswer ServerInformation → Type 0) (handler : S)
+    (M : HandlerView S → StartupCall → HandlerView S → CallAnswer ServerInformation → Type 0)
+    (handler : S)
     (config : Config) (limit : ℕ) (old new : Y) (result : Result (ClientState X) ClientError)
     : Type 0 where
   -- The client stands over the link that was dialled, the handler's meaning over it ended with what the server told of
   -- itself, and that was taken in.
   pub connected : IfOk result (λ client.
-      Connected (λ before after answer. M before startup after answer) (HeardAtStartup exchanges M)
+      Connected (λ before after answer. M before startup after answer)
+      (HeardAtStartup exchanges M)
       handler config limit (dials old) (dials new) client.known (line_of tape faults client))
   -- else it was refused before a dial, or there is no link, or the login failed and its link was closed
   pub refused : IfErr result (NotConnected (new ≡ old) foretells

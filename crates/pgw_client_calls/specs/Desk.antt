@@ -24,7 +24,14 @@ client_of d = record {
 
 -- what a handler sees of it: what it sent counts as flushed
 abbrev pub sight_of : Desk → Sight
-sight_of d = record { client = client_of d; wrote = d.out.items; flushed = length d.out.items; broken = d.broken }
+sight_of d =
+    record {
+      client = client_of d;
+      wrote = d.out.items;
+      flushed = length d.out.items;
+      broken =
+          d.broken;
+    }
 
 -- before a server told anything
 abbrev pub first_client : Config → Client
@@ -50,4 +57,10 @@ insert_all m (p ∷ ps) = insert_all (map.insert m p.0 p.1) ps
 -- what the server told of itself as a client logged in: its parameters are set over those that there are, and its process
 -- number and key replace the client's
 abbrev pub with_information : ServerInformation → Client → Client
-with_information told c = record c { parameters = insert_all c.parameters (map.entries told.parameters); process_id = told.process_id; secret_key = told.secret_key }
+with_information told c =
+    record c {
+      parameters = insert_all c.parameters (map.entries told.parameters);
+      process_id =
+          told.process_id;
+      secret_key = told.secret_key;
+    }

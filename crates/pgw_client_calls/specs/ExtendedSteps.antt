@@ -24,15 +24,23 @@ use Rattle.pgw_client_calls.specs.Extended.{Meaning, call_for, Heeds, RefusesBy,
 -- ---- one message
 
 -- A message was given to its function: it was heeded, or refused, or memory was wanting for what the function gave.
-pub data Heeded {H R : Type 0} (M : Meaning H R) (h : H) (c : Client) (g : Gathered (List R)) (m : Backend) (after : H) (more : Gathered (List R)) : Result (Unit {0}) ClientError → Type 0 where
+pub data Heeded {H R : Type 0} (M : Meaning H R) (h : H) (c : Client) (g : Gathered (List R))
+    (m : Backend) (after : H) (more : Gathered (List R)) : Result (Unit {0}) ClientError
+    → Type 0 where
   heeds : Heeds M h c g m after more → Heeded M h c g m after more (Ok tt)
-  refuses : (e : ClientError) → RefusesBy M (call_for m) h c after e → IsCaused e 0 0 false → Heeded M h c g m after more (Err e)
+  refuses : (e : ClientError) → RefusesBy M (call_for m) h c after e → IsCaused e 0 0 false
+      → Heeded M h c g m after more (Err e)
   wants : Heeded M h c g m after more (Err client.OutOfMemory)
 
 -- The same, and what it tells of the connection was noted.
-pub data TookMessage {H R : Type 0} (M : Meaning H R) (h : H) (c : Client) (g : Gathered (List R)) (m : Backend) (after : H) (info : Client) (more : Gathered (List R)) : Result (Unit {0}) ClientError → Bool → Type 0 where
-  takes : Heeds M h c g m after more → info ≡ client_after m c → TookMessage M h c g m after info more (Ok tt) false
-  refuses : (e : ClientError) → RefusesBy M (call_for m) h c after e → IsCaused e 0 0 false → info ≡ c → TookMessage M h c g m after info more (Err e) true
+pub data TookMessage {H R : Type 0} (M : Meaning H R) (h : H) (c : Client) (g : Gathered (List R))
+    (m : Backend) (after : H) (info : Client) (more : Gathered (List R)) : Result (Unit {0})
+    ClientError
+    → Bool → Type 0 where
+  takes : Heeds M h c g m after more → info ≡ client_after m c
+      → TookMessage M h c g m after info more (Ok tt) false
+  refuses : (e : ClientError) → RefusesBy M (call_for m) h c after e → IsCaused e 0 0 false
+      → info ≡ c → TookMessage M h c g m after info more (Err e) true
   wants : TookMessage M h c g m after info more (Err client.OutOfMemory) true
 
 -- ---- behind the end of an answer
@@ -46,11 +54,20 @@ abbrev pub no_error : ClientError → Bool
 no_error e = false
 
 -- What becomes of Sync, where it is due.
-pub data Synced {H R : Type 0} (M : Meaning H R) (h : H) (c : Client) (old new : Line) (after : H) (info : Client) : Bool → Result (Unit {0}) ClientError → Bool → Type 0 where
+pub data Synced {H R : Type 0} (M : Meaning H R) (h : H) (c : Client) (old new : Line) (after : H)
+    (info : Client) : Bool
+    → Result (Unit {0}) ClientError → Bool → Type 0 where
   spares : new ≡ old → after ≡ h → info ≡ c → Synced M h c old new after info false (Ok tt) false
-  sends : (s : Sight) → M (standing h (fresh c)) sync (standing after s) (Ok nothing) → s.broken ≡ false → PutAll s.wrote old new → info ≡ s.client → Synced M h c old new after info true (Ok tt) false
-  cuts : (s : Sight) → M (standing h (fresh c)) sync (standing after s) (Ok nothing) → s.broken ≡ false → PutSome s.wrote old new → info ≡ s.client → Synced M h c old new after info true (Err client.IoError) true
-  refuses : (s : Sight) (e : ClientError) → M (standing h (fresh c)) sync (standing after s) (Err e) → IsCaused e 0 0 s.broken → s.broken ≡ false → new ≡ old → info ≡ s.client → Synced M h c old new after info true (Err e) true
+  sends : (s : Sight) → M (standing h (fresh c)) sync (standing after s) (Ok nothing)
+      → s.broken ≡ false → PutAll s.wrote old new → info ≡ s.client
+      → Synced M h c old new after info true (Ok tt) false
+  cuts : (s : Sight) → M (standing h (fresh c)) sync (standing after s) (Ok nothing)
+      → s.broken ≡ false → PutSome s.wrote old new → info ≡ s.client
+      → Synced M h c old new after info true (Err client.IoError) true
+  refuses : (s : Sight) (e : ClientError)
+      → M (standing h (fresh c)) sync (standing after s) (Err e) → IsCaused e 0 0 s.broken
+      → s.broken ≡ false → new ≡ old → info ≡ s.client
+      → Synced M h c old new after info true (Err e) true
   wants : new ≡ old → Synced M h c old new after info true (Err client.OutOfMemory) true
 
 -- the answer of messages that were passed over
@@ -59,9 +76,14 @@ passed_answer client.UnexpectedEOF false = Ok (Ready false)
 passed_answer e broken = Err e
 
 -- Sync was sent where it is due, and then messages were passed over.
-pub data SettlesSync {H R : Type 0} (M : Meaning H R) (due : Bool) (h : H) (c : Client) (old new : Line) (e : ClientError) (handler : H) (info : Client) : CallAnswer Bool → Bool → Type 0 where
-  stops : (x : ClientError) → Synced M h c old new handler info due (Err x) true → SettlesSync M due h c old new e handler info (Err x) true
-  passes : (mid : Line) (between : Client) (x : ClientError) (broken was : Bool) → Synced M h c old mid handler between due (Ok tt) was → PassedOver e between mid new x info broken
+pub data SettlesSync {H R : Type 0} (M : Meaning H R) (due : Bool) (h : H) (c : Client)
+    (old new : Line) (e : ClientError) (handler : H) (info : Client) : CallAnswer Bool
+    → Bool → Type 0 where
+  stops : (x : ClientError) → Synced M h c old new handler info due (Err x) true
+      → SettlesSync M due h c old new e handler info (Err x) true
+  passes : (mid : Line) (between : Client) (x : ClientError) (broken was : Bool)
+      → Synced M h c old mid handler between due (Ok tt) was
+      → PassedOver e between mid new x info broken
       → SettlesSync M due h c old new e handler info (passed_answer x broken) broken
 
 -- ---- the messages of a call
@@ -72,20 +94,36 @@ state_or_error state (Ok done) = Ok state
 state_or_error state (Err e) = Err e
 
 -- What becomes of a message by its place.
-pub data HeededOne {H R : Type 0} (M : Meaning H R) (k : Kind) (h : H) (c : Client) (g : Gathered (List R)) (m : Backend) (old new : Line) (handler : H) (info : Client) (more : Gathered (List R)) : CallAnswer Bool → Bool → Type 0 where
-  takes : (rows : Bool) (r : Result (Unit {0}) ClientError) (broken : Bool) → call_role k m ≡ Taken rows → TookMessage M h c g m handler info more r broken → new ≡ old
+pub data HeededOne {H R : Type 0} (M : Meaning H R) (k : Kind) (h : H) (c : Client)
+    (g : Gathered (List R)) (m : Backend) (old new : Line) (handler : H) (info : Client)
+    (more : Gathered (List R)) : CallAnswer Bool
+    → Bool → Type 0 where
+  takes : (rows : Bool) (r : Result (Unit {0}) ClientError) (broken : Bool)
+      → call_role k m ≡ Taken rows → TookMessage M h c g m handler info more r broken → new ≡ old
       → HeededOne M k h c g m old new handler info more (state_or_error Pending r) broken
-  closes : (r : Result (Unit {0}) ClientError) (broken : Bool) → call_role k m ≡ Closing → TookMessage M h c g m handler info more r broken → new ≡ old
-      → HeededOne M k h c g m old new handler info more (state_or_error (Ready (is_suspended m)) r) broken
-  stops : (e : ClientError) (broken : Bool) → call_role k m ≡ Completing → TookMessage M h c g m handler info more (Err e) broken → new ≡ old → HeededOne M k h c g m old new handler info more (Err e) broken
-  completes : (after : H) (between : Client) (answer : CallAnswer Bool) (was broken : Bool) → call_role k m ≡ Completing → TookMessage M h c g m after between more (Ok tt) was
-      → SettlesSync M true after between old new client.UnexpectedEOF handler info answer broken → HeededOne M k h c g m old new handler info more answer broken
-  fails : (answer : CallAnswer Bool) (broken : Bool) → call_role k m ≡ Failing → SettlesSync M (is_sync_due k) h c old new (first_error_of client.UnexpectedEOF m) handler info answer broken → more ≡ g
+  closes : (r : Result (Unit {0}) ClientError) (broken : Bool) → call_role k m ≡ Closing
+      → TookMessage M h c g m handler info more r broken → new ≡ old
+      → HeededOne M k h c g m old new handler info more
+      (state_or_error (Ready (is_suspended m)) r) broken
+  stops : (e : ClientError) (broken : Bool) → call_role k m ≡ Completing
+      → TookMessage M h c g m handler info more (Err e) broken → new ≡ old
+      → HeededOne M k h c g m old new handler info more (Err e) broken
+  completes : (after : H) (between : Client) (answer : CallAnswer Bool) (was broken : Bool)
+      → call_role k m ≡ Completing → TookMessage M h c g m after between more (Ok tt) was
+      → SettlesSync M true after between old new client.UnexpectedEOF handler info answer broken
       → HeededOne M k h c g m old new handler info more answer broken
-  misplaced : (e : ClientError) → call_role k m ≡ Misplaced → IsUnexpected m e → handler ≡ h → info ≡ c → new ≡ old → HeededOne M k h c g m old new handler info more (Err e) true
+  fails : (answer : CallAnswer Bool) (broken : Bool) → call_role k m ≡ Failing
+      → SettlesSync M (is_sync_due k) h c old new (first_error_of client.UnexpectedEOF m) handler
+      info answer broken
+      → more ≡ g
+      → HeededOne M k h c g m old new handler info more answer broken
+  misplaced : (e : ClientError) → call_role k m ≡ Misplaced → IsUnexpected m e → handler ≡ h
+      → info ≡ c → new ≡ old → HeededOne M k h c g m old new handler info more (Err e) true
 
 -- a message was taken, and the call goes on
-pub record TookOne {H R : Type 0} (M : Meaning H R) (k : Kind) (h : H) (c : Client) (g : Gathered (List R)) (old new : Line) (handler : H) (info : Client) (more : Gathered (List R)) : Type 0 where
+pub record TookOne {H R : Type 0} (M : Meaning H R) (k : Kind) (h : H) (c : Client)
+    (g : Gathered (List R)) (old new : Line) (handler : H) (info : Client)
+    (more : Gathered (List R)) : Type 0 where
   pub taken : List ℕ
   pub message : Backend
   pub rows : Bool
@@ -97,7 +135,8 @@ pub record TookOne {H R : Type 0} (M : Meaning H R) (k : Kind) (h : H) (c : Clie
   pub goes_on : LineGoesOn old new
 
 -- messages were taken up to the call's end
-pub record LineExchange {H R : Type 0} (M : Meaning H R) (k : Kind) (h : H) (c : Client) (g : Gathered (List R)) (old new : Line) (last : Finish H R) : Type 0 where
+pub record LineExchange {H R : Type 0} (M : Meaning H R) (k : Kind) (h : H) (c : Client)
+    (g : Gathered (List R)) (old new : Line) (last : Finish H R) : Type 0 where
   pub taken : List ℕ
   pub sent : List ℕ
   pub moved : MovesLine old new taken sent
@@ -108,18 +147,25 @@ pub record LineExchange {H R : Type 0} (M : Meaning H R) (k : Kind) (h : H) (c :
   pub at_end : AtEnd old new (IsHalted is_remote last.answer last.broken)
 
 -- one message was taken: the call goes on, or has ended, and this says whether the portal was suspended
-abbrev pub HeededNext : {H R : Type 0} → Meaning H R → Kind → H → Client → Gathered (List R) → Line → Line → H → Client → Gathered (List R) → Bool → CallAnswer Bool → Type 0
-HeededNext M k h c g old new handler info more broken (Ok Pending) = TookOne M k h c g old new handler info more × (broken ≡ false)
-HeededNext M k h c g old new handler info more broken (Ok (Ready suspended)) = LineExchange M k h c g old new (finish (Ok (more, suspended)) handler info broken new.buffer)
-HeededNext M k h c g old new handler info more broken (Err e) = LineExchange M k h c g old new (finish (Err e) handler info broken new.buffer)
+abbrev pub HeededNext : {H R : Type 0} → Meaning H R → Kind → H → Client → Gathered (List R)
+    → Line → Line → H → Client → Gathered (List R) → Bool → CallAnswer Bool → Type 0
+HeededNext M k h c g old new handler info more broken (Ok Pending) =
+    TookOne M k h c g old new handler info more × (broken ≡ false)
+HeededNext M k h c g old new handler info more broken (Ok (Ready suspended)) =
+    LineExchange M k h c g old new (finish (Ok (more, suspended)) handler info broken new.buffer)
+HeededNext M k h c g old new handler info more broken (Err e) =
+    LineExchange M k h c g old new (finish (Err e) handler info broken new.buffer)
 
 -- the same behind some rows: the call goes on from there as it does from the beginning, or has ended
-abbrev pub HeededOn : {H R : Type 0} → Meaning H R → Kind → H → Client → Gathered (List R) → Line → Line → H → Client → Gathered (List R) → Bool → CallAnswer Bool → Type 0
+abbrev pub HeededOn : {H R : Type 0} → Meaning H R → Kind → H → Client → Gathered (List R) → Line
+    → Line → H → Client → Gathered (List R) → Bool → CallAnswer Bool → Type 0
 HeededOn {H = H} {R = R} M k h c g old new handler info more broken (Ok Pending) =
     ((final : Line) (last : Finish H R) → LineExchange M k handler info more new final last →
     LineExchange M k h c g old final last) × (broken ≡ false)
-HeededOn M k h c g old new handler info more broken (Ok (Ready suspended)) = LineExchange M k h c g old new (finish (Ok (more, suspended)) handler info broken new.buffer)
-HeededOn M k h c g old new handler info more broken (Err e) = LineExchange M k h c g old new (finish (Err e) handler info broken new.buffer)
+HeededOn M k h c g old new handler info more broken (Ok (Ready suspended)) =
+    LineExchange M k h c g old new (finish (Ok (more, suspended)) handler info broken new.buffer)
+HeededOn M k h c g old new handler info more broken (Err e) =
+    LineExchange M k h c g old new (finish (Err e) handler info broken new.buffer)
 
 -- in these a handler is asked to take rows together
 abbrev pub takes_rows : Kind → Bool
@@ -134,7 +180,8 @@ abbrev pub may_stay : ClientError → Bool
 may_stay e = is_remote e || is_refusal e
 
 -- A request was asked and answered.
-pub record MakesCall {H R : Type 0} (M : Meaning H R) (q : Request) (h : H) (c : Client) (old new : Line) (last : Finish H R) : Type 0 where
+pub record MakesCall {H R : Type 0} (M : Meaning H R) (q : Request) (h : H) (c : Client)
+    (old new : Line) (last : Finish H R) : Type 0 where
   pub taken : List ℕ
   pub sent : List ℕ
   pub moved : MovesLine old new taken sent
@@ -145,14 +192,18 @@ pub record MakesCall {H R : Type 0} (M : Meaning H R) (q : Request) (h : H) (c :
   pub at_end : AtEnd old new (IsHalted is_remote last.answer last.broken)
 
 -- the answer made of what was gathered
-abbrev pub gathered_as : {S A : Type 0} → (Gathered S → Bool → A) → Result (Gathered S × Bool) ClientError → Result A ClientError
+abbrev pub gathered_as : {S A : Type 0} → (Gathered S → Bool → A)
+    → Result (Gathered S × Bool) ClientError → Result A ClientError
 gathered_as give (Ok x) = Ok (give x.0 x.1)
 gathered_as give (Err e) = Err e
 
 -- The same, for a call that makes its own answer of what was gathered, in which `listed` says what the responses are.
-pub record AnswersGathered {H R S A : Type 0} (M : Meaning H R) (listed : S → List R) (q : Request)
-    (give : Gathered S → Bool → A) (h : H) (c : Client) (old new : Line) (handler : H) (info : Client)
+pub record AnswersGathered {H R S A : Type 0} (M : Meaning H R) (listed : S → List R)
+    (q : Request)
+    (give : Gathered S → Bool → A) (h : H) (c : Client) (old new : Line) (handler : H)
+    (info : Client)
     (broken : Bool) (result : Result A ClientError) : Type 0 where
   pub answer : Result (Gathered S × Bool) ClientError
   pub gives : result ≡ gathered_as give answer
-  pub called : MakesCall M q h c old new (finish (in_lists listed answer) handler info broken new.buffer)
+  pub called : MakesCall M q h c old new
+      (finish (in_lists listed answer) handler info broken new.buffer)

@@ -20,7 +20,8 @@ pub record Fills {X : Type 0} (foretells : Type 0) (left : X → Option (List �
   -- a client that an earlier error left unusable stays as it is
   pub broken : before.broken ≡ true → (result ≡ Err client.Broken) × (after ≡ before)
   -- ReadLimit comes exactly where the limit is reached
-  pub limited : before.broken ≡ false → before.read ≡ before.limit → IsErrOf result client.ReadLimit
+  pub limited : before.broken ≡ false → before.read ≡ before.limit
+      → IsErrOf result client.ReadLimit
   pub below : IsErrOf result client.ReadLimit → before.read ≡ before.limit
   -- true comes only where bytes came
   pub grows : result ≡ Ok true → before.read < after.read

@@ -18,7 +18,8 @@ pub record Line : Type 0 where
   pub limit : ℕ
 
 abbrev pub line : Tape → ℕ → List ℕ → ℕ → ℕ → Line
-line tape faults buffer read limit = record { tape = tape; faults = faults; buffer = buffer; read = read; limit = limit }
+line tape faults buffer read limit =
+    record { tape = tape; faults = faults; buffer = buffer; read = read; limit = limit }
 
 -- the link has ended: it was asked for more behind these answers of its end, and answered its end
 pub record IsAtEnd (ended : List ℕ) (now : Line) : Type 0 where
@@ -63,7 +64,8 @@ abbrev pub IsUnsent : ℕ → Line → List ℕ → Type 0
 IsUnsent before now lost = Rose before now.faults × (lost ≡ [] → IsFlushed now → ⊥)
 
 abbrev pub Pause : Line → Line → Reasons
-Pause old new = record { halts = HaltsBy old.faults old.tape.ended new; unsent = IsUnsent old.faults new }
+Pause old new =
+    record { halts = HaltsBy old.faults old.tape.ended new; unsent = IsUnsent old.faults new }
 
 -- the link's end was not answered
 abbrev pub NotEnded : Line → Line → Type 0
@@ -72,7 +74,9 @@ NotEnded old new = new.tape.ended ≡ old.tape.ended
 -- or it was once, so many bytes had been flushed, and a message was still awaited
 abbrev pub Halts : Client → ℕ → Line → Line → Type 0
 Halts c flushed old new =
-    NotEnded old new ⊎ ((new.tape.ended ≡ old.tape.ended ++ flushed ∷ []) × (front c.protocol_version new.buffer ≡ More))
+    NotEnded old new
+    ⊎ ((new.tape.ended ≡ old.tape.ended ++ flushed ∷ []) ×
+    (front c.protocol_version new.buffer ≡ More))
 
 -- a fact that holds where the link's end was answered
 abbrev pub AtEnd : Line → Line → Type 0 → Type 0

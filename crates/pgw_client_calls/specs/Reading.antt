@@ -67,7 +67,8 @@ NextOrLack P c bytes (Ok m) rest = Next c bytes m rest
 NextOrLack P c bytes (Err e) rest = Lack P c bytes rest e
 
 -- the message at the front of a client's bytes, for which as many were read as it takes
-pub record MessageCame (c : Client) (old new : Line) (result : Result Backend ClientError) : Type 0 where
+pub record MessageCame (c : Client) (old new : Line) (result : Result Backend ClientError) : Type
+    0 where
   pub taken : List ℕ
   pub drew : Drew old new taken
   pub found : NextOrLack (Pause old new) c (old.buffer ++ taken) result new.buffer
@@ -77,10 +78,12 @@ pub record MessageCame (c : Client) (old new : Line) (result : Result Backend Cl
   pub well : WentWell old new ⊎ (result ≡ Err client.IoError)
 
 -- behind an error the messages were passed over
-pub record PassedOver (e : ClientError) (c : Client) (old new : Line) (x : ClientError) (last : Client) (broken : Bool) : Type 0 where
+pub record PassedOver (e : ClientError) (c : Client) (old new : Line) (x : ClientError)
+    (last : Client) (broken : Bool) : Type 0 where
   pub taken : List ℕ
   pub drew : Drew old new taken
   pub passing : Passing (Pause old new) e c (old.buffer ++ taken) x last new.buffer broken
   pub halts : Halts last old.tape.flushed old new
-  pub at_end : AtEnd old new ((broken ≡ true) × ((x ≡ e) ⊎ ((e ≡ client.UnexpectedEOF) × (is_remote x ≡ true))))
+  pub at_end : AtEnd old new
+      ((broken ≡ true) × ((x ≡ e) ⊎ ((e ≡ client.UnexpectedEOF) × (is_remote x ≡ true))))
   pub well : WentWell old new ⊎ (x ≡ client.IoError)

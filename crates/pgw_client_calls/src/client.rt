@@ -116,7 +116,8 @@ impl<L: Link> ClientInfo for PgWireClient<L> {
     }
 
     fn set_protocol_version(&mut self, version: ProtocolVersion)
-        ensures set { sight_in L.tape self.new ≡ with_sight_version version (sight_in L.tape self.old) }
+        ensures set { sight_in L.tape self.new ≡ with_sight_version version
+            (sight_in L.tape self.old) }
         ensures own { own_in self.new ≡ own_in self.old }
         ensures rest { rest_in L.tape self.new ≡ rest_in L.tape self.old }
         ensures calm { L.faults self.new.link ≡ L.faults self.old.link }
@@ -130,7 +131,8 @@ impl<L: Link> ClientInfo for PgWireClient<L> {
     }
 
     fn set_transaction_status(&mut self, status: TransactionStatus)
-        ensures set { sight_in L.tape self.new ≡ with_sight_status status (sight_in L.tape self.old) }
+        ensures set { sight_in L.tape self.new ≡ with_sight_status status
+            (sight_in L.tape self.old) }
         ensures own { own_in self.new ≡ own_in self.old }
         ensures rest { rest_in L.tape self.new ≡ rest_in L.tape self.old }
         ensures calm { L.faults self.new.link ≡ L.faults self.old.link }

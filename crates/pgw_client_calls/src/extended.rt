@@ -46,8 +46,10 @@ impl<'a, L: Link, H: ExtendedQueryHandler> ExtendedQueryClient<'a, L, H> {
         alloc: Global,
         request: Result<Request, OutOfMemory>,
     ) -> PgWireClientResult<(Gathered<H::Responses>, bool)>
-        ensures asks { (q : TheRequest) → IfOk request (λ r. r ≡ q) → AsksByClient L.foretells L.left L.tape
-            L.faults H.means H.Responses.listed q lent_pair self.old.handler.now self.new.handler.now
+        ensures asks { (q : TheRequest) → IfOk request (λ r. r ≡ q) →
+            AsksByClient L.foretells L.left L.tape
+            L.faults H.means H.Responses.listed q lent_pair self.old.handler.now
+            self.new.handler.now
             self.old.client.now
             self.new.client.now result }
         ensures same_client { self.new.client.ghost_name ≡ self.old.client.ghost_name }
@@ -77,7 +79,8 @@ impl<'a, L: Link, H: ExtendedQueryHandler> ExtendedQueryClient<'a, L, H> {
     // Memory was wanting for a request.
     fn starve(&mut self) -> PgWireClientError
         ensures asks { (q : TheRequest) → AsksByClient L.foretells L.left L.tape L.faults H.means
-            H.Responses.listed q lent_pair self.old.handler.now self.new.handler.now self.old.client.now
+            H.Responses.listed q lent_pair self.old.handler.now self.new.handler.now
+            self.old.client.now
             self.new.client.now
             (Err result) }
         ensures same_client { self.new.client.ghost_name ≡ self.old.client.ghost_name }

@@ -25,10 +25,10 @@ pub use crate::client::PgWireClient;
 pub use crate::extended::{ExtendedQueryClient, ExtendedQueryState};
 pub use crate::gathered::Gathered;
 pub use crate::requests::DescribeTarget;
+pub use pgw_control::terminate::Terminate;
 pub use pgw_frontend::frontend::PgWireFrontendMessage;
 pub use pgw_handlers::{
     ClientInfo, ExtendedQueryHandler, Outgoing, ReadyState, ServerInformation, SimpleQueryHandler,
     StartupHandler,
 };
-pub use pgw_control::terminate::Terminate;
 pub use pgw_session::types::{DescribeResponse, ExecuteResult, PrepareResponse};

@@ -7,10 +7,10 @@ use crate::listener::Listener;
 use crate::own::{fill, parameter, poll, send, set};
 use crate::shown::{Shown, error_name, said, status_shown, told};
 use anyhow::Result;
+use example_row_counter::RowCounter;
 use pgw_client::{Listed, PgWireClientError, PgWireClientResult};
 use pgw_client_calls::PgWireClient;
 use pgw_handlers_default::{DefaultSimpleQueryHandler, DefaultStartupHandler};
-use example_row_counter::RowCounter;
 use std::alloc::Global;
 
 type Client = PgWireClient<CaseLink>;

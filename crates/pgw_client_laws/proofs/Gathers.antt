@@ -73,31 +73,44 @@ pub record Gathers (k : Kind) (g : Gathered (List DataRow)) (t : Tally) : Type 0
   pub unended : ends_often k ≡ false → t.executed ≡ None
 
 pub gathers_none : (k : Kind) → Gathers k none_gathered no_tally
-gathers_none k = record { types = refl; columns = refl; rows = refl; remote = refl; unopened = λ is. refl; unended = λ is. refl }
+gathers_none k =
+    record {
+      types = refl;
+      columns = refl;
+      rows = refl;
+      remote = refl;
+      unopened = λ is. refl;
+      unended = λ is. refl;
+    }
 
-row_kind : (k : Kind) (row : DataRow) (r : Bool) → IsAsked k → role k false (backend.DataRow row) ≡ Taken r → has_rows k ≡ true
+row_kind : (k : Kind) (row : DataRow) (r : Bool) → IsAsked k → role k false (backend.DataRow row) ≡ Taken r
+    → has_rows k ≡ true
 row_kind kind.Simple row r a is = absurd a
 row_kind kind.Execute row r a is = refl
 row_kind kind.Query row r a is = refl
 row_kind k row r a is = absurd (cc)
 
-description_kind : (k : Kind) (m : RowDescription) (r : Bool) → IsAsked k → role k false (backend.RowDescription m) ≡ Taken r → has_rows k ≡ false
+description_kind : (k : Kind) (m : RowDescription) (r : Bool) → IsAsked k
+    → role k false (backend.RowDescription m) ≡ Taken r → has_rows k ≡ false
 description_kind kind.Simple m r a is = absurd a
 description_kind kind.Execute m r a is = absurd (cc)
 description_kind kind.Query m r a is = absurd (cc)
 description_kind k m r a is = refl
 
-complete_kind : (k : Kind) (m : CommandComplete) (r : Bool) → IsAsked k → role k false (backend.CommandComplete m) ≡ Taken r → k ≡ kind.Query
+complete_kind : (k : Kind) (m : CommandComplete) (r : Bool) → IsAsked k
+    → role k false (backend.CommandComplete m) ≡ Taken r → k ≡ kind.Query
 complete_kind kind.Simple m r a is = absurd a
 complete_kind kind.Query m r a is = refl
 complete_kind k m r a is = absurd (cc)
 
-empty_kind : (k : Kind) (m : EmptyQueryResponse) (r : Bool) → IsAsked k → role k false (backend.EmptyQueryResponse m) ≡ Taken r → k ≡ kind.Query
+empty_kind : (k : Kind) (m : EmptyQueryResponse) (r : Bool) → IsAsked k
+    → role k false (backend.EmptyQueryResponse m) ≡ Taken r → k ≡ kind.Query
 empty_kind kind.Simple m r a is = absurd a
 empty_kind kind.Query m r a is = refl
 empty_kind k m r a is = absurd (cc)
 
-suspended_kind : (k : Kind) (m : PortalSuspended) (r : Bool) → role k false (backend.PortalSuspended m) ≡ Taken r → ⊥
+suspended_kind : (k : Kind) (m : PortalSuspended) (r : Bool) → role k false (backend.PortalSuspended m) ≡ Taken r
+    → ⊥
 suspended_kind kind.Execute m r is = cc
 suspended_kind k m r is = cc
 
@@ -105,7 +118,9 @@ abbrev ok : Gift DataRow → Given DataRow
 ok gift = Ok gift
 
 -- a notification is refused, so the place of a message that is heeded is that of the table
-pub by_table : (k : Kind) (h after : DefaultExtendedQueryHandler) (c : Client) (g more : Gathered (List DataRow)) (m : Backend) (r : Role) → call_role k m ≡ r → Heeds ExtendedMeans h c g m after more → role k false m ≡ r
+pub by_table : (k : Kind) (h after : DefaultExtendedQueryHandler) (c : Client) (g more : Gathered (List DataRow))
+    (m : Backend) (r : Role)
+    → call_role k m ≡ r → Heeds ExtendedMeans h c g m after more → role k false m ≡ r
 by_table k h after c g more (backend.NotificationResponse m) r is heeds = absurd (heeds.1)
 by_table k h after c g more m r is heeds = is
 
@@ -121,27 +136,39 @@ stray kind.Query m = refl
 
 -- ---- one message more
 
-module _ (k : Kind) (h after : DefaultExtendedQueryHandler) (c : Client) (g more : Gathered (List DataRow)) (t : Tally) (a : IsAsked k) (s : Gathers k g t) where
+module _ (k : Kind) (h after : DefaultExtendedQueryHandler) (c : Client) (g more : Gathered (List DataRow))
+    (t : Tally) (a : IsAsked k) (s : Gathers k g t) where
   same : (m : Backend) → tally_after t m ≡ t → more ≡ g → Gathers k more (tally_after t m)
-  same m is are = subst (Gathers k more) (sym is) (subst (λ (x : Gathered (List DataRow)). Gathers k x t) (sym are) s)
+  same m is are =
+      subst (Gathers k more) (sym is) (subst (λ (x : Gathered (List DataRow)). Gathers k x t) (sym are) s)
 
-  pub row_gathers : (row : DataRow) → has_rows k ≡ true → more ≡ record g { responses = g.responses ++ row ∷ [] } → Gathers k more (tally_after t (backend.DataRow row))
+  pub row_gathers : (row : DataRow) → has_rows k ≡ true → more ≡ record g { responses = g.responses ++ row ∷ [] }
+      → Gathers k more (tally_after t (backend.DataRow row))
   row_gathers row has is =
-      let tally : tally_after t (backend.DataRow row) ≡ record t { rows = t.rows ++ row ∷ [] } = rw (s.remote, s.unopened has) refl in
-      subst (Gathers k more) (sym tally) (subst (λ (x : Gathered (List DataRow)). Gathers k x (record t { rows = t.rows ++ row ∷ [] })) (sym is) (record {
+      let tally : tally_after t (backend.DataRow row) ≡ record t { rows = t.rows ++ row ∷ [] } =
+      rw (s.remote, s.unopened has) refl in
+      subst (Gathers k more) (sym tally)
+      (subst (λ (x : Gathered (List DataRow)). Gathers k x (record t { rows = t.rows ++ row ∷ [] })) (sym is)
+      (record {
         types = s.types;
         columns = s.columns;
-        rows = ap (λ (l : List DataRow). l ++ row ∷ []) s.rows ∙ append_assoc (rows_until t.executed) t.rows (row ∷ []);
+        rows = ap (λ (l : List DataRow). l ++ row ∷ []) s.rows
+            ∙ append_assoc (rows_until t.executed) t.rows (row ∷ []);
         remote = s.remote;
         unopened = s.unopened;
         unended = s.unended;
       }))
 
-  pub description_gathers : (m : RowDescription) → has_rows k ≡ false → more ≡ record g { columns = map field_info_of m.fields } → Gathers k more (tally_after t (backend.RowDescription m))
+  pub description_gathers : (m : RowDescription) → has_rows k ≡ false
+      → more ≡ record g { columns = map field_info_of m.fields }
+      → Gathers k more (tally_after t (backend.RowDescription m))
   description_gathers m has is =
       let opened : Opened = record { fields = map field_info_of m.fields; rows = [] } in
-      let tally : tally_after t (backend.RowDescription m) ≡ record t { opened = Some opened } = rw s.remote refl in
-      subst (Gathers k more) (sym tally) (subst (λ (x : Gathered (List DataRow)). Gathers k x (record t { opened = Some opened })) (sym is) (record {
+      let tally : tally_after t (backend.RowDescription m) ≡ record t { opened = Some opened } =
+      rw s.remote refl in
+      subst (Gathers k more) (sym tally)
+      (subst (λ (x : Gathered (List DataRow)). Gathers k x (record t { opened = Some opened })) (sym is)
+      (record {
         types = s.types;
         columns = refl;
         rows = s.rows;
@@ -150,10 +177,14 @@ module _ (k : Kind) (h after : DefaultExtendedQueryHandler) (c : Client) (g more
         unended = s.unended;
       }))
 
-  pub parameters_gather : (m : ParameterDescription) → more ≡ record g { types = map type_of m.types } → Gathers k more (tally_after t (backend.ParameterDescription m))
+  pub parameters_gather : (m : ParameterDescription) → more ≡ record g { types = map type_of m.types }
+      → Gathers k more (tally_after t (backend.ParameterDescription m))
   parameters_gather m is =
-      let tally : tally_after t (backend.ParameterDescription m) ≡ record t { param_types = map type_of m.types } = rw s.remote refl in
-      subst (Gathers k more) (sym tally) (subst (λ (x : Gathered (List DataRow)). Gathers k x (record t { param_types = map type_of m.types })) (sym is) (record {
+      let tally : tally_after t (backend.ParameterDescription m) ≡ record t { param_types = map type_of m.types } =
+      rw s.remote refl in
+      subst (Gathers k more) (sym tally)
+      (subst (λ (x : Gathered (List DataRow)). Gathers k x (record t { param_types = map type_of m.types }))
+      (sym is) (record {
         types = refl;
         columns = s.columns;
         rows = s.rows;
@@ -163,12 +194,15 @@ module _ (k : Kind) (h after : DefaultExtendedQueryHandler) (c : Client) (g more
       }))
 
   -- a portal's end, in a query
-  ended_gathers : (u : Tally) (x : Option (ExecuteResult (List DataRow))) → k ≡ kind.Query → t.executed ≡ x → u.param_types ≡ t.param_types → u.opened ≡ None → u.rows ≡ t.rows → u.remote ≡ None → u.executed ≡ t.executed →
+  ended_gathers : (u : Tally) (x : Option (ExecuteResult (List DataRow))) → k ≡ kind.Query → t.executed ≡ x
+      → u.param_types ≡ t.param_types → u.opened ≡ None → u.rows ≡ t.rows → u.remote ≡ None
+      → u.executed ≡ t.executed →
       Gathers k g (with_end t.executed u (execute.Complete t.rows))
   ended_gathers u None query is types opened rows remote ended = rw is (record {
     types = s.types ∙ sym types;
     columns = s.columns ∙ ap last_columns (s.unopened (ap has_rows query)) ∙ sym (ap last_columns opened);
-    rows = s.rows ∙ ap (λ (o : Option (ExecuteResult (List DataRow))). rows_until o ++ t.rows) is ∙ sym (append-nil t.rows);
+    rows = s.rows ∙ ap (λ (o : Option (ExecuteResult (List DataRow))). rows_until o ++ t.rows) is
+        ∙ sym (append-nil t.rows);
     remote = remote;
     unopened = λ yes. opened;
     unended = λ not. absurd (let often : ends_often k ≡ true = ap ends_often query in cc);
@@ -176,23 +210,31 @@ module _ (k : Kind) (h after : DefaultExtendedQueryHandler) (c : Client) (g more
   ended_gathers u (Some x) query is types opened rows remote ended = rw is (record {
     types = s.types ∙ sym types;
     columns = s.columns ∙ ap last_columns (s.unopened (ap has_rows query)) ∙ sym (ap last_columns opened);
-    rows = s.rows ∙ ap (λ (o : Option (ExecuteResult (List DataRow))). rows_until o ++ t.rows) (sym ended) ∙ ap (λ (l : List DataRow). rows_until u.executed ++ l) (sym rows);
+    rows = s.rows ∙ ap (λ (o : Option (ExecuteResult (List DataRow))). rows_until o ++ t.rows) (sym ended)
+        ∙ ap (λ (l : List DataRow). rows_until u.executed ++ l) (sym rows);
     remote = remote;
     unopened = λ yes. opened;
     unended = λ not. absurd (let often : ends_often k ≡ true = ap ends_often query in cc);
   })
 
-  complete_gathers : (m : CommandComplete) → k ≡ kind.Query → more ≡ g → Gathers k more (tally_after t (backend.CommandComplete m))
+  complete_gathers : (m : CommandComplete) → k ≡ kind.Query → more ≡ g
+      → Gathers k more (tally_after t (backend.CommandComplete m))
   complete_gathers m query is =
       let u : Tally = record t { responses = t.responses ++ response_of t.opened m.tag ∷ []; opened = None } in
-      subst (Gathers k more) (sym (ap (λ (o : Option ErrorResponse). noted_unless o t (backend.CommandComplete m)) s.remote))
-      (subst (λ (x : Gathered (List DataRow)). Gathers k x (with_end t.executed u (execute.Complete t.rows))) (sym is) (ended_gathers u t.executed query refl refl refl refl s.remote refl))
+      subst (Gathers k more)
+      (sym (ap (λ (o : Option ErrorResponse). noted_unless o t (backend.CommandComplete m)) s.remote))
+      (subst (λ (x : Gathered (List DataRow)). Gathers k x (with_end t.executed u (execute.Complete t.rows)))
+      (sym is) (ended_gathers u t.executed query refl refl refl refl s.remote refl))
 
-  empty_gathers : (m : EmptyQueryResponse) → k ≡ kind.Query → more ≡ g → Gathers k more (tally_after t (backend.EmptyQueryResponse m))
+  empty_gathers : (m : EmptyQueryResponse) → k ≡ kind.Query → more ≡ g
+      → Gathers k more (tally_after t (backend.EmptyQueryResponse m))
   empty_gathers m query is =
       let u : Tally = record t { responses = t.responses ++ response_kind.EmptyQuery ∷ [] } in
-      subst (Gathers k more) (sym (ap (λ (o : Option ErrorResponse). noted_unless o t (backend.EmptyQueryResponse m)) s.remote))
-      (subst (λ (x : Gathered (List DataRow)). Gathers k x (with_end t.executed u (execute.Complete t.rows))) (sym is) (ended_gathers u t.executed query refl refl (s.unopened (ap has_rows query)) refl s.remote refl))
+      subst (Gathers k more)
+      (sym (ap (λ (o : Option ErrorResponse). noted_unless o t (backend.EmptyQueryResponse m)) s.remote))
+      (subst (λ (x : Gathered (List DataRow)). Gathers k x (with_end t.executed u (execute.Complete t.rows)))
+      (sym is) (ended_gathers u t.executed query refl refl (s.unopened (ap has_rows query)) refl s.remote
+      refl))
 
   response_is : {x : Gift DataRow} {row : DataRow} → ok x ≡ ok (response row) → x ≡ response row
   response_is {x} {row} e = cc
@@ -201,14 +243,20 @@ module _ (k : Kind) (h after : DefaultExtendedQueryHandler) (c : Client) (g more
   nothing_given {x} e = cc
 
   -- a message that is taken
-  pub gathers : (m : Backend) (r : Bool) → role k false m ≡ Taken r → Heeds ExtendedMeans h c g m after more → Gathers k more (tally_after t m)
-  gathers (backend.ParameterDescription m) r is heeds = parameters_gather m (heeds.2 ∙ ap (with_gift g) (heeds.1).1)
-  gathers (backend.RowDescription m) r is heeds = description_gathers m (description_kind k m r a is) (heeds.2 ∙ ap (with_gift g) (heeds.1).1)
-  gathers (backend.DataRow m) r is heeds = row_gathers m (row_kind k m r a is) (heeds.2 ∙ ap (with_gift g) (response_is (heeds.1).1))
-  gathers (backend.CommandComplete m) r is heeds = complete_gathers m (complete_kind k m r a is) (heeds.2 ∙ ap (with_gift g) (heeds.1).1)
+  pub gathers : (m : Backend) (r : Bool) → role k false m ≡ Taken r → Heeds ExtendedMeans h c g m after more
+      → Gathers k more (tally_after t m)
+  gathers (backend.ParameterDescription m) r is heeds =
+      parameters_gather m (heeds.2 ∙ ap (with_gift g) (heeds.1).1)
+  gathers (backend.RowDescription m) r is heeds =
+      description_gathers m (description_kind k m r a is) (heeds.2 ∙ ap (with_gift g) (heeds.1).1)
+  gathers (backend.DataRow m) r is heeds =
+      row_gathers m (row_kind k m r a is) (heeds.2 ∙ ap (with_gift g) (response_is (heeds.1).1))
+  gathers (backend.CommandComplete m) r is heeds =
+      complete_gathers m (complete_kind k m r a is) (heeds.2 ∙ ap (with_gift g) (heeds.1).1)
   gathers (backend.EmptyQueryResponse m) r is heeds = empty_gathers m (empty_kind k m r a is) heeds.1
   gathers (backend.PortalSuspended m) r is heeds = absurd (suspended_kind k m r is)
-  gathers (backend.NoticeResponse m) r is heeds = same (backend.NoticeResponse m) (rw s.remote refl) (heeds.2 ∙ ap (with_gift g) (nothing_given (heeds.1).1))
+  gathers (backend.NoticeResponse m) r is heeds =
+      same (backend.NoticeResponse m) (rw s.remote refl) (heeds.2 ∙ ap (with_gift g) (nothing_given (heeds.1).1))
   gathers (backend.NotificationResponse m) r is heeds = absurd (heeds.1)
   gathers (backend.ErrorResponse m) r is heeds = absurd (cc)
   gathers m r is heeds = same m (rw s.remote refl) heeds.1
@@ -220,22 +268,31 @@ abbrev IsPlain : Request → Type 0
 IsPlain (request.Execute portal max_rows) = ⊥
 IsPlain q = Unit {0}
 
-plain_answer : (q : Request) (g : Gathered (List DataRow)) (t : Tally) → IsExtended q → IsPlain q → Gathers (kind_of q) g t → answer_by q t ≡ call_answer q (g, false)
+plain_answer : (q : Request) (g : Gathered (List DataRow)) (t : Tally) → IsExtended q → IsPlain q
+    → Gathers (kind_of q) g t → answer_by q t ≡ call_answer q (g, false)
 plain_answer (request.Simple query) g t e p s = absurd e
-plain_answer (request.Prepare name query types) g t e p s = ap (λ o. answer_with o (result_of (request.Prepare name query types) t)) s.remote ∙ ap (λ ts. answer.Prepared (record { name = name; param_types = ts })) (sym s.types)
-plain_answer (request.Bind portal statement parameters formats) g t e p s = ap (λ o. answer_with o answer.Bound) s.remote
+plain_answer (request.Prepare name query types) g t e p s =
+    ap (λ o. answer_with o (result_of (request.Prepare name query types) t)) s.remote
+    ∙ ap (λ ts. answer.Prepared (record { name = name; param_types = ts })) (sym s.types)
+plain_answer (request.Bind portal statement parameters formats) g t e p s =
+    ap (λ o. answer_with o answer.Bound) s.remote
 plain_answer (request.Execute portal max_rows) g t e p s = absurd p
 plain_answer (request.Describe target) g t e p s =
-    ap (λ o. answer_with o (result_of (request.Describe target) t)) s.remote ∙ ap (λ ts. answer.Described (record { param_types = ts; fields = last_columns t.opened })) (sym s.types)
+    ap (λ o. answer_with o (result_of (request.Describe target) t)) s.remote
+    ∙ ap (λ ts. answer.Described (record { param_types = ts; fields = last_columns t.opened })) (sym s.types)
     ∙ ap (λ fs. answer.Described (record { param_types = g.types; fields = fs })) (sym s.columns)
 plain_answer (request.Close target) g t e p s = ap (λ o. answer_with o answer.Closed) s.remote
-plain_answer (request.Query query types parameters) g t e p s = ap (λ o. answer_with o (result_of (request.Query query types parameters) t)) s.remote ∙ ap answer.Rows (sym s.rows)
+plain_answer (request.Query query types parameters) g t e p s =
+    ap (λ o. answer_with o (result_of (request.Query query types parameters) t)) s.remote
+    ∙ ap answer.Rows (sym s.rows)
 
-ready_plain : (q : Request) (m : ReadyForQuery) → role (kind_of q) false (backend.ReadyForQuery m) ≡ Closing → IsPlain q
+ready_plain : (q : Request) (m : ReadyForQuery) → role (kind_of q) false (backend.ReadyForQuery m) ≡ Closing
+    → IsPlain q
 ready_plain (request.Execute portal max_rows) m is = cc
 ready_plain q m is = tt
 
-bind_plain : (q : Request) (m : BindComplete) → role (kind_of q) false (backend.BindComplete m) ≡ Closing → IsPlain q
+bind_plain : (q : Request) (m : BindComplete) → role (kind_of q) false (backend.BindComplete m) ≡ Closing
+    → IsPlain q
 bind_plain (request.Execute portal max_rows) m is = cc
 bind_plain q m is = tt
 
@@ -243,11 +300,13 @@ none_plain : (q : Request) (m : NoData) → role (kind_of q) false (backend.NoDa
 none_plain (request.Execute portal max_rows) m is = cc
 none_plain q m is = tt
 
-described_plain : (q : Request) (m : RowDescription) → role (kind_of q) false (backend.RowDescription m) ≡ Closing → IsPlain q
+described_plain : (q : Request) (m : RowDescription) → role (kind_of q) false (backend.RowDescription m) ≡ Closing
+    → IsPlain q
 described_plain (request.Execute portal max_rows) m is = cc
 described_plain q m is = tt
 
-described_kind : (k : Kind) (m : RowDescription) → role k false (backend.RowDescription m) ≡ Closing → has_rows k ≡ false
+described_kind : (k : Kind) (m : RowDescription) → role k false (backend.RowDescription m) ≡ Closing
+    → has_rows k ≡ false
 described_kind kind.Execute m is = cc
 described_kind kind.Query m is = cc
 described_kind k m is = refl
@@ -341,11 +400,14 @@ taken_false k m rows a is = subst Undescribed is (undescribed k m a)
 
 -- ---- the closing message
 
-suspended_answer : (q : Request) (m : PortalSuspended) (g : Gathered (List DataRow)) (t : Tally) → IsExtended q → role (kind_of q) false (backend.PortalSuspended m) ≡ Closing → Gathers (kind_of q) g t → answer_by q (tally_after t (backend.PortalSuspended m)) ≡ call_answer q (g, true)
+suspended_answer : (q : Request) (m : PortalSuspended) (g : Gathered (List DataRow)) (t : Tally) → IsExtended q
+    → role (kind_of q) false (backend.PortalSuspended m) ≡ Closing → Gathers (kind_of q) g t
+    → answer_by q (tally_after t (backend.PortalSuspended m)) ≡ call_answer q (g, true)
 suspended_answer (request.Simple query) m g t e is s = absurd e
 suspended_answer (request.Execute portal max_rows) m g t e is s =
     let unended : t.executed ≡ None = s.unended refl in
-    let rows : g.responses ≡ t.rows = s.rows ∙ ap (λ (o : Option (ExecuteResult (List DataRow))). rows_until o ++ t.rows) unended in
+    let rows : g.responses ≡ t.rows =
+    s.rows ∙ ap (λ (o : Option (ExecuteResult (List DataRow))). rows_until o ++ t.rows) unended in
     rw (s.remote, unended, rows) refl
 suspended_answer (request.Prepare name query types) m g t e is s = absurd (cc)
 suspended_answer (request.Bind portal statement parameters formats) m g t e is s = absurd (cc)
@@ -354,19 +416,32 @@ suspended_answer (request.Describe (target.Portal name)) m g t e is s = absurd (
 suspended_answer (request.Close target) m g t e is s = absurd (cc)
 suspended_answer (request.Query query types parameters) m g t e is s = absurd (cc)
 
-module _ (q : Request) (e : IsExtended q) (h after : DefaultExtendedQueryHandler) (c : Client) (g more : Gathered (List DataRow)) (t : Tally) (s : Gathers (kind_of q) g t) where
-  silent : (m : Backend) → tally_after t m ≡ t → more ≡ g → IsPlain q → answer_by q (tally_after t m) ≡ call_answer q (more, false)
-  silent m is are plain = ap (answer_by q) is ∙ plain_answer q g t e plain s ∙ ap (λ (x : Gathered (List DataRow)). call_answer q (x, false)) (sym are)
+module _ (q : Request) (e : IsExtended q) (h after : DefaultExtendedQueryHandler) (c : Client)
+    (g more : Gathered (List DataRow)) (t : Tally) (s : Gathers (kind_of q) g t) where
+  silent : (m : Backend) → tally_after t m ≡ t → more ≡ g → IsPlain q
+      → answer_by q (tally_after t m) ≡ call_answer q (more, false)
+  silent m is are plain =
+      ap (answer_by q) is ∙ plain_answer q g t e plain s
+      ∙ ap (λ (x : Gathered (List DataRow)). call_answer q (x, false)) (sym are)
 
   nothing_is : {x : Gift DataRow} → ok x ≡ ok nothing → x ≡ nothing
   nothing_is {x} is = cc
 
-  pub closing_answer : (m : Backend) → role (kind_of q) false m ≡ Closing → Heeds ExtendedMeans h c g m after more → answer_by q (tally_after t m) ≡ call_answer q (more, is_suspended m)
-  closing_answer (backend.ReadyForQuery m) is heeds = silent (backend.ReadyForQuery m) (rw s.remote refl) heeds.1 (ready_plain q m is)
-  closing_answer (backend.BindComplete m) is heeds = silent (backend.BindComplete m) (rw s.remote refl) heeds.1 (bind_plain q m is)
-  closing_answer (backend.NoData m) is heeds = silent (backend.NoData m) (rw s.remote refl) heeds.1 (none_plain q m is)
+  pub closing_answer : (m : Backend) → role (kind_of q) false m ≡ Closing → Heeds ExtendedMeans h c g m after more
+      → answer_by q (tally_after t m) ≡ call_answer q (more, is_suspended m)
+  closing_answer (backend.ReadyForQuery m) is heeds =
+      silent (backend.ReadyForQuery m) (rw s.remote refl) heeds.1 (ready_plain q m is)
+  closing_answer (backend.BindComplete m) is heeds =
+      silent (backend.BindComplete m) (rw s.remote refl) heeds.1 (bind_plain q m is)
+  closing_answer (backend.NoData m) is heeds =
+      silent (backend.NoData m) (rw s.remote refl) heeds.1 (none_plain q m is)
   closing_answer (backend.RowDescription m) is heeds =
       plain_answer q more (tally_after t (backend.RowDescription m)) e (described_plain q m is)
-      (description_gathers (kind_of q) h after c g more t (asked q e) s m (described_kind (kind_of q) m is) (heeds.2 ∙ ap (with_gift g) (heeds.1).1))
-  closing_answer (backend.PortalSuspended m) is heeds = suspended_answer q m g t e is s ∙ ap (λ (x : Gathered (List DataRow)). call_answer q (x, true)) (sym (heeds.2 ∙ ap (with_gift g) (nothing_is (heeds.1).1)))
+      (description_gathers (kind_of q) h after c g more t (asked q e) s m (described_kind (kind_of q) m is)
+      (heeds.2
+      ∙ ap (with_gift g) (heeds.1).1))
+  closing_answer (backend.PortalSuspended m) is heeds =
+      suspended_answer q m g t e is s
+      ∙ ap (λ (x : Gathered (List DataRow)). call_answer q (x, true)) (sym (heeds.2
+      ∙ ap (with_gift g) (nothing_is (heeds.1).1)))
   closing_answer m is heeds = absurd (subst (λ (r : Role). Fits (kind_of q) r m) is (fits (kind_of q) m))

@@ -27,13 +27,18 @@ portal_result false rows = execute.Complete rows
 -- what was gathered, as the request's answer
 abbrev pub call_answer : Request → Gathered (List DataRow) × Bool → Answer
 call_answer (request.Simple query) x = answer.Responses []
-call_answer (request.Prepare name query types) x = answer.Prepared (record { name = name; param_types = (x.0).types })
+call_answer (request.Prepare name query types) x =
+    answer.Prepared (record { name = name; param_types = (x.0).types })
 call_answer (request.Bind portal statement parameters formats) x = answer.Bound
-call_answer (request.Execute portal max_rows) x = answer.Executed (portal_result x.1 (x.0).responses)
-call_answer (request.Describe target) x = answer.Described (record { param_types = (x.0).types; fields = (x.0).columns })
+call_answer (request.Execute portal max_rows) x =
+    answer.Executed (portal_result x.1 (x.0).responses)
+call_answer (request.Describe target) x =
+    answer.Described (record { param_types = (x.0).types; fields = (x.0).columns })
 call_answer (request.Close target) x = answer.Closed
 call_answer (request.Query query types parameters) x = answer.Rows (x.0).responses
 
 -- the call came to this end
-abbrev pub EndsExtendedCall : Request → Client → List ℕ → List ℕ → Reasons → Finish DefaultExtendedQueryHandler DataRow → Type 0
-EndsExtendedCall q c bytes sent P end = Comes (call_answer q) P q c bytes sent end.info end.rest end.answer end.broken
+abbrev pub EndsExtendedCall : Request → Client → List ℕ → List ℕ → Reasons
+    → Finish DefaultExtendedQueryHandler DataRow → Type 0
+EndsExtendedCall q c bytes sent P end =
+    Comes (call_answer q) P q c bytes sent end.info end.rest end.answer end.broken

@@ -21,15 +21,19 @@ use Rattle.pgw_client_laws.specs.Stands.{login}
 
 -- The events are the startup segment. A client that is given the information knows what they tell, and the parameters of
 -- both are the same.
-pub record LoggedIn (config : Config) (nonce bytes sent : List ℕ) (information : ServerInformation) (info : Client) (rest : List ℕ) : Type 0 where
+pub record LoggedIn (config : Config) (nonce bytes sent : List ℕ)
+    (information : ServerInformation) (info : Client) (rest : List ℕ) : Type 0 where
   pub es : List Event
   pub segment : IsStartupSegment (login config nonce) es
-  pub exchanged : AreExchanged config (first_standing config) bytes sent es (with_information information info) rest
+  pub exchanged : AreExchanged config (first_standing config) bytes sent es
+      (with_information information info) rest
   pub parameters : information.parameters ≡ info.parameters
 
 -- The startup message has no encoding, and nothing was done.
 abbrev pub IsUnopened : Config → List ℕ → List ℕ → List ℕ → PgWireError → Client → List ℕ → Type 0
-IsUnopened config nonce bytes sent why info rest = (encodings (startup_message (login config nonce) ∷ []) ≡ Err why) × (sent ≡ []) × (info ≡ first_client config) × (rest ≡ bytes)
+IsUnopened config nonce bytes sent why info rest =
+    (encodings (startup_message (login config nonce) ∷ []) ≡ Err why) × (sent ≡ [])
+    × (info ≡ first_client config) × (rest ≡ bytes)
 
 -- a message is next at startup for which this error stands
 abbrev pub IsRefusedStartup : Input → List ℕ → List ℕ → ClientError → Type 0
@@ -37,33 +41,51 @@ IsRefusedStartup input bytes sent e = FailsAtStartup input bytes sent e × IsHop
 
 -- of what the login tells over these bytes, some was not written and flushed, which P says why, and what would follow it
 abbrev pub IsUnsentStartup : Reasons → Input → List ℕ → List ℕ → Type 0
-IsUnsentStartup P input bytes sent = (lost : List ℕ) × P.unsent lost × (more : List ℕ) × BytesTell input bytes (sent ++ (lost ++ more))
+IsUnsentStartup P input bytes sent =
+    (lost : List ℕ) × P.unsent lost × (more : List ℕ)
+    × BytesTell input bytes (sent ++ (lost ++ more))
 
 -- The cause of each error, where these bytes came and these were written. P says why no more came, and why some were not
 -- written. No other error comes.
 abbrev pub LoginFails : Reasons → Input → List ℕ → List ℕ → ClientError → Type 0
 LoginFails P input bytes sent client.OutOfMemory = Unit {0}
-LoginFails P input bytes sent (client.PgWireError why) = ((Unreadable input bytes sent why ⊎ Unsendable input bytes sent why) × IsHopeless input bytes) ⊎ IsRefusedStartup input bytes sent (client.PgWireError why)
-LoginFails P input bytes sent (client.UnexpectedMessage m) = HasNoPlace input ⊥ bytes sent m × IsHopeless input bytes
-LoginFails P input bytes sent client.UnexpectedEOF = P.halts client.UnexpectedEOF × LeftWith input bytes sent None × IsUnfinished input bytes
-LoginFails P input bytes sent client.ReadLimit = P.halts client.ReadLimit × WaitsStill input bytes sent
-LoginFails P input bytes sent client.IoError = (P.halts client.IoError × WaitsStill input bytes sent) ⊎ IsUnsentStartup P input bytes sent
-LoginFails P input bytes sent (client.RemoteError e) = IsRefusedStartup input bytes sent (client.RemoteError e)
-LoginFails P input bytes sent (client.ScramError fault) = IsRefusedStartup input bytes sent (client.ScramError fault)
-LoginFails P input bytes sent (client.UnsupportedSASLAuthMethods methods) = IsRefusedStartup input bytes sent (client.UnsupportedSASLAuthMethods methods)
-LoginFails P input bytes sent (client.InvalidConfig key) = IsRefusedStartup input bytes sent (client.InvalidConfig key)
+LoginFails P input bytes sent (client.PgWireError why) =
+    ((Unreadable input bytes sent why ⊎ Unsendable input bytes sent why) × IsHopeless input bytes)
+    ⊎ IsRefusedStartup input bytes sent (client.PgWireError why)
+LoginFails P input bytes sent (client.UnexpectedMessage m) =
+    HasNoPlace input ⊥ bytes sent m × IsHopeless input bytes
+LoginFails P input bytes sent client.UnexpectedEOF =
+    P.halts client.UnexpectedEOF × LeftWith input bytes sent None × IsUnfinished input bytes
+LoginFails P input bytes sent client.ReadLimit =
+    P.halts client.ReadLimit × WaitsStill input bytes sent
+LoginFails P input bytes sent client.IoError =
+    (P.halts client.IoError × WaitsStill input bytes sent) ⊎ IsUnsentStartup P input bytes sent
+LoginFails P input bytes sent (client.RemoteError e) =
+    IsRefusedStartup input bytes sent (client.RemoteError e)
+LoginFails P input bytes sent (client.ScramError fault) =
+    IsRefusedStartup input bytes sent (client.ScramError fault)
+LoginFails P input bytes sent (client.UnsupportedSASLAuthMethods methods) =
+    IsRefusedStartup input bytes sent (client.UnsupportedSASLAuthMethods methods)
+LoginFails P input bytes sent (client.InvalidConfig key) =
+    IsRefusedStartup input bytes sent (client.InvalidConfig key)
 LoginFails P input bytes sent e = ⊥
 
-abbrev pub LoginEnds : Reasons → Config → List ℕ → List ℕ → List ℕ → Client → List ℕ → Result ServerInformation ClientError → Bool → Type 0
-LoginEnds P config nonce bytes sent info rest (Ok information) false = LoggedIn config nonce bytes sent information info rest
+abbrev pub LoginEnds : Reasons → Config → List ℕ → List ℕ → List ℕ → Client → List ℕ
+    → Result ServerInformation ClientError → Bool → Type 0
+LoginEnds P config nonce bytes sent info rest (Ok information) false =
+    LoggedIn config nonce bytes sent information info rest
 LoginEnds P config nonce bytes sent info rest (Ok information) true = ⊥
-LoginEnds P config nonce bytes sent info rest (Err e) true = LoginFails P (login config nonce) bytes sent e
-LoginEnds P config nonce bytes sent info rest (Err (client.PgWireError why)) false = IsUnopened config nonce bytes sent why info rest
+LoginEnds P config nonce bytes sent info rest (Err e) true =
+    LoginFails P (login config nonce) bytes sent e
+LoginEnds P config nonce bytes sent info rest (Err (client.PgWireError why)) false =
+    IsUnopened config nonce bytes sent why info rest
 LoginEnds P config nonce bytes sent info rest (Err e) false = ⊥
 
 -- a login came to this end
-abbrev pub LoginCall : Config → List ℕ → List ℕ → List ℕ → Reasons → CallEnd ServerInformation → Type 0
-LoginCall config nonce bytes sent P end = LoginEnds P config nonce bytes sent end.info end.rest end.answer end.broken
+abbrev pub LoginCall : Config → List ℕ → List ℕ → List ℕ → Reasons → CallEnd ServerInformation
+    → Type 0
+LoginCall config nonce bytes sent P end =
+    LoginEnds P config nonce bytes sent end.info end.rest end.answer end.broken
 
 -- ---- where a link still has a whole startup segment
 

@@ -23,14 +23,33 @@ use Rattle.pgw_handlers.specs.Client.{Client}
 
 -- what a client knows that was told this, and what stands by a client that has logged in
 abbrev pub knowing : Config → Standing → Client
-knowing config s = record { config = config; parameters = s.parameters; process_id = s.process_id; secret_key = s.secret_key; protocol_version = s.version; transaction_status = s.status }
+knowing config s =
+    record {
+      config = config;
+      parameters = s.parameters;
+      process_id = s.process_id;
+      secret_key =
+          s.secret_key;
+      protocol_version = s.version;
+      transaction_status = s.status;
+    }
 
 abbrev pub standing_of_client : Client → Standing
-standing_of_client c = record { version = c.protocol_version; settled = true; parameters = c.parameters; process_id = c.process_id; secret_key = c.secret_key; status = c.transaction_status }
+standing_of_client c =
+    record {
+      version = c.protocol_version;
+      settled = true;
+      parameters = c.parameters;
+      process_id =
+          c.process_id;
+      secret_key = c.secret_key;
+      status = c.transaction_status;
+    }
 
 -- Behind a standing, the bytes begin with spellings of the messages got, and those sent are encoded as the bytes written.
 -- The client knows what all of it tells, and these bytes are left.
-pub record AreExchanged (config : Config) (s : Standing) (bytes sent : List ℕ) (es : List Event) (info : Client) (rest : List ℕ) : Type 0 where
+pub record AreExchanged (config : Config) (s : Standing) (bytes sent : List ℕ) (es : List Event)
+    (info : Client) (rest : List ℕ) : Type 0 where
   pub spelled : List ℕ
   pub begins : bytes ≡ spelled ++ rest
   pub got : SpellsGot s es spelled
@@ -39,7 +58,9 @@ pub record AreExchanged (config : Config) (s : Standing) (bytes sent : List ℕ)
 
 -- events with this property were exchanged by a client that knew c
 abbrev pub Does : (List Event → Type 0) → Client → List ℕ → List ℕ → Client → List ℕ → Type 0
-Does property c bytes sent info rest = (es : List Event) × property es × AreExchanged c.config (standing_of_client c) bytes sent es info rest
+Does property c bytes sent info rest =
+    (es : List Event) × property es
+    × AreExchanged c.config (standing_of_client c) bytes sent es info rest
 
 -- ---- how a call's events go
 
@@ -60,9 +81,13 @@ pub record IsMisplaced (k : Kind) (rows : Bool) (m : Backend) (es : List Event) 
 
 -- what is sent behind a message that ends an answer or has no place, and what is passed over then
 abbrev pub IsPassing : Kind → Role → List Event → Type 0
-IsPassing k Completing es = (passed : List Backend) × (es ≡ Sent sync ∷ map Got passed) × IsQuiet passed
-IsPassing k Failing es = (passed : List Backend) × (es ≡ map Sent (sends (behind_error k)) ++ map Got passed) × IsQuiet passed
-IsPassing k Misplaced es = (passed : List Backend) × (es ≡ map Got passed) × IsQuiet passed × (passes_over k ≡ true)
+IsPassing k Completing es =
+    (passed : List Backend) × (es ≡ Sent sync ∷ map Got passed) × IsQuiet passed
+IsPassing k Failing es =
+    (passed : List Backend) × (es ≡ map Sent (sends (behind_error k)) ++ map Got passed)
+    × IsQuiet passed
+IsPassing k Misplaced es =
+    (passed : List Backend) × (es ≡ map Got passed) × IsQuiet passed × (passes_over k ≡ true)
 IsPassing k r es = ⊥
 
 -- the error that the bytes' end is answered with there: of a message that has no place, or the server's first
@@ -74,7 +99,8 @@ error_behind r m es = end_with None (first_error (Got m ∷ es))
 abbrev pub IsCutOff : Kind → Bool → ClientError → List Event → Type 0
 IsCutOff k rows e es =
     ((es ≡ []) × (e ≡ client.UnexpectedEOF))
-    ⊎ ((m : Backend) × (more : List Event) × (es ≡ Got m ∷ more) × IsPassing k (role k rows m) more × (e ≡ error_behind (role k rows m) m more))
+    ⊎ ((m : Backend) × (more : List Event) × (es ≡ Got m ∷ more) × IsPassing k (role k rows m)
+    more × (e ≡ error_behind (role k rows m) m more))
 
 pub record IsCutCall (k : Kind) (rows : Bool) (e : ClientError) (es : List Event) : Type 0 where
   pub ms : List Backend
@@ -94,7 +120,8 @@ pub record IsOpenFor (k : Kind) (rows : Bool) (m : Backend) (es : List Event) : 
 
 -- with the request's opening before it
 abbrev pub Opened : Request → (List Event → Type 0) → List Event → Type 0
-Opened q property es = (answer : List Event) × (es ≡ map Sent (sends_of q) ++ answer) × property answer
+Opened q property es =
+    (answer : List Event) × (es ≡ map Sent (sends_of q) ++ answer) × property answer
 
 -- a segment that is passed over; and a front of the request's segment, or of one that is passed over
 abbrev pub IsPassedSegment : Request → Backend → List Event → Type 0

@@ -84,7 +84,8 @@ pub fn whole_extended_segments_are_reported()
         (spelled more : List ℕ) → IsExtended q →
         Requested ExtendedMeans (Pause before now) q h c bytes sent end → IsRequestSegment q es →
         SpellsGot (standing_of_client c) es spelled → bytes ≡ spelled ++ more →
-        CallReports (call_answer q) (Pause before now) q (answer_of q es) c bytes sent end.info end.rest
+        CallReports (call_answer q) (Pause before now) q (answer_of q es) c bytes sent end.info
+        end.rest
         end.answer }
 {}
 
@@ -147,7 +148,8 @@ pub fn logins_begin_a_client()
 pub fn simple_queries_follow_one_another()
     ensures { (config : TheConfig) (nonce : List ℕ) (ts : List Made) (read wrote : List ℕ)
         (q : List ℕ) (h : TheHandler) (c : Client) (old now : Line)
-        (last : CallEnd (List TheResponse)) → StandsForCalls config nonce ts read wrote c old.buffer →
+        (last : CallEnd (List TheResponse)) →
+        StandsForCalls config nonce ts read wrote c old.buffer →
         LineCall (λ before after answer. QueryMeans before (simple_query q) after answer)
         (HeardInQuery QueryMeans) passes h c old now last →
         (more sent : List ℕ) × MovesLine old now more sent × (last.broken ≡ false → IsFlushed now) ×
@@ -160,7 +162,8 @@ pub fn extended_queries_follow_one_another()
     ensures { (config : TheConfig) (nonce : List ℕ) (ts : List Made) (read wrote : List ℕ)
         (q : TheRequest) (h : TheExtended) (c : Client) (old now : Line)
         (last : Finish TheExtended TheRow) → IsExtended q →
-        StandsForCalls config nonce ts read wrote c old.buffer → MakesCall ExtendedMeans q h c old now last →
+        StandsForCalls config nonce ts read wrote c old.buffer →
+        MakesCall ExtendedMeans q h c old now last →
         (more sent : List ℕ) × MovesLine old now more sent × (last.broken ≡ false → IsFlushed now) ×
         StandsBehind (call_answer q) config nonce ts q
         (read ++ more) (wrote ++ sent) last.info last.rest last.answer last.broken }
@@ -178,7 +181,8 @@ pub fn filled_clients_stand()
 pub fn ended_clients_stand()
     ensures { (config : TheConfig) (nonce : List ℕ) (ts : List Made) (read wrote : List ℕ)
         (c : Client) (old now : Line) → StandsForCalls config nonce ts read wrote c old.buffer →
-        MeetsLinkEnd old now → Drew old now [] × StandsForCalls config nonce ts read wrote c now.buffer }
+        MeetsLinkEnd old now → Drew old now [] ×
+        StandsForCalls config nonce ts read wrote c now.buffer }
 {}
 
 /// A client that stands for requests, each answered by its own segment, is a session of them.

@@ -12,7 +12,8 @@ use Rattle.pgw_client_places.specs.Targets.{question}
 use Rattle.pgw_client_places.specs.Fitting.{AsksPlace}
 
 -- a new handler asks
-pub asks : {X : Type 0} (foretells : Type 0) (left : X → Option (List ℕ)) (tape : X → Tape) (faults : X → ℕ) (handler :
+pub asks : {X : Type 0} (foretells : Type 0) (left : X → Option (List ℕ)) (tape : X → Tape) (faults : X → ℕ)
+    (handler :
     DefaultSimpleQueryHandler) (before after : ClientState X) (answer : Result (List Response) ClientError)
     → handler ≡ record { tally = no_tally }
     → Queries foretells left tape faults QueryMeans handler question before after answer

@@ -19,7 +19,8 @@ module _ {Y X : Type 0} (t : Telling Y X) where
   -- a connect with what a place names
   pub logs_in : (place : Place) (config : Config) (handler : DefaultStartupHandler) (old new : Y) (result : Result
       (ClientState X) ClientError) → config ≡ place.config → handler ≡ login_by place.nonce
-      → Connects t.foretells t.offers t.dials t.failed t.left t.tape t.faults exchanges StartupMeans handler config
+      → Connects t.foretells t.offers t.dials t.failed t.left t.tape t.faults exchanges StartupMeans handler
+      config
       no_limit old new result
       → LogsInAtPlace t place old new result
   logs_in place config handler old new (Ok c) is by k = rw (sym is, sym by) k
@@ -30,7 +31,8 @@ module _ {Y X : Type 0} (t : Telling Y X) where
       (Option NoSession)) → ConnectsAt t place old mid (Ok first)
       → KeepsAtPlace t (wanted_of place.config.target_session_attrs) first mid new result
       → Tries t place old new result
-  kept place first old mid new (Ok c) login keeps = record { first = first; mid = mid; login = login; keeps = keeps }
+  kept place first old mid new (Ok c) login keeps =
+      record { first = first; mid = mid; login = login; keeps = keeps }
   kept place first old mid new (Err ended) login keeps = unfit first mid ended login keeps
 
 -- the next of some places

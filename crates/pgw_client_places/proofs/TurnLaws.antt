@@ -112,16 +112,20 @@ module _ {Y X : Type 0} (t : Telling Y X) where
       → DialsInTurn (place ∷ []) (t.dials old) (t.dials new)
       → DialsInTurn (place ∷ places) (t.dials old) (t.dials new)
   and_others place places old new d =
-      dials_on place places (t.dials old) (t.dials new) (t.dials new) d (no_dial places (t.dials new) (t.dials new)
+      dials_on place places (t.dials old) (t.dials new) (t.dials new) d
+      (no_dial places (t.dials new) (t.dials new)
       refl)
 
   pub all_in_turn : (places : List Place) (old new : Y) (result : Result (ClientState X) NoSession)
       → TriesAll t places old new result → DialsInTurn places (t.dials old) (t.dials new)
   all_in_turn _ _ _ _ (no_more d) = no_dial [] (t.dials d) (t.dials d) refl
   all_in_turn _ _ _ _ (next place more old mid new result p rest) =
-      dials_on place more (t.dials old) (t.dials mid) (t.dials new) (passes_dials place old mid None p) (all_in_turn
+      dials_on place more (t.dials old) (t.dials mid) (t.dials new) (passes_dials place old mid None p)
+      (all_in_turn
       more mid new result rest)
-  all_in_turn _ _ _ _ (stopped place more old new why p) = and_others place more old new (passes_dials place old new
+  all_in_turn _ _ _ _ (stopped place more old new why p) =
+      and_others place more old new (passes_dials place old new
       (Some why) p)
-  all_in_turn _ _ _ _ (let_in place more old new c l) = and_others place more old new (lets_in_dials place old new c
+  all_in_turn _ _ _ _ (let_in place more old new c l) =
+      and_others place more old new (lets_in_dials place old new c
       l)

@@ -3,8 +3,8 @@ ghost use Rattle.std.specs.Prelude.{◌≡◌};
 
 use crate::notes::{Clock, LoginNotes, is_final};
 use pgw_backend::client_error::PgWireClientResult;
-use pgw_handlers_default::DefaultStartupHandler;
 use pgw_handlers::{ClientInfo, Outgoing, ServerInformation, StartupHandler};
+use pgw_handlers_default::DefaultStartupHandler;
 use pgw_query::response::ReadyForQuery;
 use pgw_startup::authentication::Authentication;
 use pgw_startup::backend_key_data::BackendKeyData;

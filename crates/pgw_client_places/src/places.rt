@@ -6,14 +6,14 @@ ghost use Rattle.pgw_client_places.specs.Telling.{telling};
 use crate::noted::NotedStartupHandler;
 use crate::notes::{Clock, LoginNotes};
 use crate::targets::{Fit, look_at, wanted_of};
-use pgw_prog_answers::faults::told_of_error;
-use pgw_prog_answers::written::write_whole;
 use pgw_backend::client_error::{PgWireClientError, PgWireClientResult};
-use pgw_config::config::Config;
 use pgw_client_calls::PgWireClient;
+use pgw_config::config::Config;
 use pgw_handlers_default::DefaultStartupHandler;
 use pgw_link::dialer::Dialer;
 use pgw_link::stream::Sink;
+use pgw_prog_answers::faults::told_of_error;
+use pgw_prog_answers::written::write_whole;
 use pgw_types::listed::Duplicate;
 use std::alloc::Global;
 

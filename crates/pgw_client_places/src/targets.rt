@@ -4,8 +4,8 @@ ghost use Rattle.pgw_client_places.specs.Targets.{target_fit as fit_for, fit_of 
 ghost use Rattle.pgw_client_places.specs.Fitting.{AsksPlace, FitsBy};
 
 use pgw_backend::client_error::{PgWireClientError, PgWireClientResult};
-use pgw_config::config::TargetSessionAttrs;
 use pgw_client_calls::PgWireClient;
+use pgw_config::config::TargetSessionAttrs;
 use pgw_handlers_default::DefaultSimpleQueryHandler;
 use pgw_link::link::Link;
 use pgw_query::data_rows::DataRows;

@@ -85,7 +85,8 @@ module _ (config : Config) (nonce : List ℕ) (q : Request) where
       (encodings (sends reply)) out is in
       subst IsOfRequest same (goes stage reply refl, here.1, here.2)
   moves_keep n next m out Closes here goes is =
-      let ends = ap (opens_next notes_book (notes_book.closes n m (open_request one n.closed))) (none_next q n here.1) in
+      let ends =
+      ap (opens_next notes_book (notes_book.closes n m (open_request one n.closed))) (none_next q n here.1) in
       absurd (cc)
   moves_keep n next m out Wrong here goes is = absurd (cc)
   moves_keep n next m out (Refuses e) here goes is = absurd (cc)
@@ -149,7 +150,8 @@ module _ (config : Config) (nonce : List ℕ) (q : Request) where
         ∙ ap (opens_next notes_book (notes_book.closes (f n) m (Some q))) none
         ∙ ap (λ (x : Notes). opens_next notes_book x None) notes
         ∙ ap (λ o. map_move f (map_end f) (opens_next notes_book (notes_book.closes n m o) None)) (sym is)
-        ∙ ap (λ o. map_move f (map_end f) (opens_next notes_book (notes_book.closes n m (open_request one n.closed)) o))
+        ∙ ap (λ o. map_move f (map_end f)
+        (opens_next notes_book (notes_book.closes n m (open_request one n.closed)) o))
         (sym (none_next q n here.1))
 
     moves_seen : (n : Notes) (m : Backend) (x : Next) → IsOfRequest n
@@ -170,7 +172,8 @@ module _ (config : Config) (nonce : List ℕ) (q : Request) where
     turn_seen : (n : Notes) (m : Backend) (o : Option Backend) → IsOfRequest n
         → turn_by notes_book all (f n) m o ≡ map_move f (map_end f) (turn_by notes_book one n m o)
     turn_seen n m None here =
-        ap (moves_by notes_book all (f n) m) (same_after n.stage m here.0) ∙ moves_seen n m (next_after one n.stage m) here
+        ap (moves_by notes_book all (f n) m) (same_after n.stage m here.0)
+        ∙ moves_seen n m (next_after one n.stage m) here
     turn_seen n m (Some first) here = passes_seen n m first (is_ready m)
 
     pub last_view : IsViewWhere IsOfRequest f (map_end f) (rules_by notes_book one) (rules_by notes_book all)
@@ -197,7 +200,8 @@ module _ (config : Config) (nonce : List ℕ) (q : Request) where
   sending_ends first second end (Ok bytes) whole is = absurd (cc)
 
   closes_gives : (n : Notes) (end : End Notes) (m : Backend) → IsOfRequest n
-      → opens_next notes_book (notes_book.closes n m (open_request input n.closed)) (slice_get (q ∷ []) n.closed) ≡
+      → opens_next notes_book (notes_book.closes n m (open_request input n.closed)) (slice_get (q ∷ []) n.closed)
+      ≡
       Ends end []
       → Gives end.notes
   closes_gives n end m here is =
@@ -207,7 +211,8 @@ module _ (config : Config) (nonce : List ℕ) (q : Request) where
       let same : end.notes ≡ notes_book.closes n m (open_request input n.closed) = cc in (
         _,
         ap (λ (x : Notes). x.answers) same
-            ∙ ap (λ (l : List Answer). l ++ answer_for (open_request input n.closed) (tally_after n.tally m)) here.2
+            ∙ ap (λ (l : List Answer). l ++ answer_for (open_request input n.closed) (tally_after n.tally m))
+            here.2
             ∙ ap (λ o. answer_for o (tally_after n.tally m)) asked,
       )
 

@@ -105,7 +105,8 @@ answered_by mid new old_out new_out result here v = subst (HasAnswer new) (sym v
         (ap (λ i. turn_by notes_book i s.notes stops.0 s.notes.first_passed) (sym same)
         ∙ stops.4)
 
-    go : (fed : Result Bool ClientError) → PushStopsAtFront (last_input mid) s.notes s.left new.notes new.inbox fed
+    go : (fed : Result Bool ClientError)
+        → PushStopsAtFront (last_input mid) s.notes s.left new.notes new.inbox fed
         → HasAnswer new (answer_behind fed new.room new.notes.closed)
     go (Ok true) stops = λ q is. gives q (sym v.made.2 ∙ is) stops
     go (Ok false) stops = waiting_has new new.room new.notes.closed
@@ -120,7 +121,8 @@ stood_of input limit c given put stood s =
     h.comes.notes_at
 
 -- Messages that are whole were taken by a client that stood stood, with a piece behind what was kept.
-pub takes : (old mid new : PushClient) (piece old_out new_out : List ℕ) (result : Result DialoguePhase ClientError)
+pub takes : (old mid new : PushClient) (piece old_out new_out : List ℕ)
+    (result : Result DialoguePhase ClientError)
     → old.state ≡ state.Open
     → (mid.config ≡ old.config) × (mid.nonce ≡ old.nonce) × (mid.asked ≡ old.asked) × (mid.notes ≡ old.notes)
     → mid.inbox ≡ old.inbox ++ piece → mid.room + length piece ≡ old.room
@@ -159,7 +161,8 @@ takes old mid new piece old_out new_out result stood same inbox room v = record 
         new_out v.fed (goes_by input mid new (same.0
         ∙ s.config) (same.1 ∙ s.nonce) v.made.2) fits comes cut v.serves (v.state
         ∙ ap push_state_behind v.answer) in
-        subst (λ r. StandsFor input limit new (given ++ piece) (put ++ (v.serves).way.out) × AnswersDialogue input limit
+        subst (λ r. StandsFor input limit new (given ++ piece) (put ++ (v.serves).way.out) × AnswersDialogue input
+        limit
         (given ++ piece) (put ++ (v.serves).way.out) r) (sym v.answer) p
 
 -- memory was wanting for the piece
@@ -207,7 +210,8 @@ tally_sent fs = go no_tally fs
     go t (f ∷ fs) = go t fs
 
 -- behind the bytes of a transcript the next request's segment is opened
-opens_at : (input : Input) (q : Request) (notes : Notes) (segments : List (List Event)) (done put opening : List ℕ)
+opens_at : (input : Input) (q : Request) (notes : Notes) (segments : List (List Event))
+    (done put opening : List ℕ)
     → IsTranscript input segments → SpellsGot (first_standing input.config) (all_events segments) done
     → EncodesSent (all_events segments) put
     → notes.standing ≡ standing_of input.config (all_events segments)
@@ -226,9 +230,11 @@ opens_at input q notes (startup ∷ segments) done put opening transcript got se
     let answers = answers_of more.requests segments in
     let count = count_segments input.requests segments transcript.1 in
     let closed : suc (length segments) ≡ 1 + length input.requests = omega (arith, count) in
-    let heard : (all_events all ++ map Sent (sends_of q)) ++ [] ≡ all_events all ++ map Sent (sends_of q) = append-nil _ in
+    let heard : (all_events all ++ map Sent (sends_of q)) ++ [] ≡ all_events all ++ map Sent (sends_of q) =
+    append-nil _ in
     let stand : standing_of input.config ((all_events all ++ map Sent (sends_of q)) ++ []) ≡ notes.standing =
-    ap (standing_of input.config) heard ∙ standing_plus input.config (all_events all) (sends_of q) ∙ sym standing in
+    ap (standing_of input.config) heard ∙ standing_plus input.config (all_events all) (sends_of q)
+    ∙ sym standing in
     let tally : tally_of (map Sent (sends_of q)) ≡ notes.tally = tally_sent (sends_of q) ∙ sym fresh.0 in
     let none = sym (append-nil answers) in
     let passed = sym fresh.1 in
@@ -288,7 +294,8 @@ asks_next old mid new q opening old_out mid_out new_out result idle encoded put_
         new_out v.fed (goes_by more mid new (o.made.0
         ∙ s.config) (o.made.1 ∙ s.nonce) v.made.2) fits comes cut v.serves (v.state
         ∙ ap push_state_behind v.answer) in
-        subst (λ r. StandsFor more limit new given (put ++ (opening ++ (v.serves).way.out)) × AnswersDialogue more limit
+        subst (λ r. StandsFor more limit new given (put ++ (opening ++ (v.serves).way.out)) × AnswersDialogue more
+        limit
         given (put ++ (opening ++ (v.serves).way.out)) r) (sym v.answer)
         (subst (λ (w : List ℕ). StandsFor more limit new given w × AnswersDialogue more limit given w
         (answer_behind v.fed new.room new.notes.closed)) (append_assoc put opening (v.serves).way.out) p)
@@ -461,7 +468,8 @@ still_waits input limit c given put stood s =
 -- what was put out is all that is sent in the conversation, or a front of it where memory was wanting
 sent_in : (s : State) (c : PushClient) (input : Input) (limit : ℕ) (given put : List ℕ)
     → PushStandsIn s c input limit given put
-    → (unsent : List ℕ) × (sent_of (conversation input given) ≡ put ++ unsent) × ((s ≡ state.Starved) ⊎ (unsent ≡ []))
+    → (unsent : List ℕ) × (sent_of (conversation input given) ≡ put ++ unsent)
+    × ((s ≡ state.Starved) ⊎ (unsent ≡ []))
 sent_in state.Open c input limit given put h =
     let waits = comes_waits input c.asked c.notes h.done put c.inbox h.comes
     (reads_more c.notes.standing.version c.inbox h.partial) in
@@ -469,7 +477,8 @@ sent_in state.Open c input limit given put h =
 sent_in state.Idle c input limit given put h =
     let over = conversation_completes input h.segments h.done put c.inbox h.transcript h.got h.put_is in
     ([], ap sent_of (ap (conversation input) h.cut ∙ over) ∙ sym (append-nil put), inr refl)
-sent_in state.Refused c input limit given put (inl over) = ([], ap sent_of over.2 ∙ sym (append-nil put), inr refl)
+sent_in state.Refused c input limit given put (inl over) =
+    ([], ap sent_of over.2 ∙ sym (append-nil put), inr refl)
 sent_in state.Refused c input limit given put (inr waits) =
     ([], ap sent_of (waits.0).2 ∙ sym (append-nil put), inr refl)
 sent_in state.Starved c input limit given put begins = (begins.0, begins.1, inl refl)

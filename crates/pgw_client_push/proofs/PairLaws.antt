@@ -34,7 +34,8 @@ pub record Fits (input : Input) (limit : ℕ) (c : PushClient) (given : List ℕ
   pub room : length given + c.room ≡ limit
 
 pub stands_as : (input : Input) (limit : ℕ) (c : PushClient) (given put : List ℕ) (s : State)
-    → Fits input limit c given → c.state ≡ s → PushStandsIn s c input limit given put → StandsFor input limit c given put
+    → Fits input limit c given → c.state ≡ s → PushStandsIn s c input limit given put
+    → StandsFor input limit c given put
 stands_as input limit c given put s fits is h =
     record {
       config = fits.config;
@@ -54,7 +55,8 @@ below : (input : Input) (limit : ℕ) (c : PushClient) (given : List ℕ) → Fi
 below input limit c given fits = taken_below limit given (omega (arith, fits.room))
 
 abbrev Pair : Input → ℕ → PushClient → List ℕ → List ℕ → Result DialoguePhase ClientError → Type 0
-Pair input limit c given put result = StandsFor input limit c given put × AnswersDialogue input limit given put result
+Pair input limit c given put result =
+    StandsFor input limit c given put × AnswersDialogue input limit given put result
 
 -- ---- refused
 
@@ -75,7 +77,8 @@ starved_pair input limit c given put e fits is to begins = (
 )
 
 -- the conversation has ended with an error
-refused_pair : (input : Input) (limit : ℕ) (c : PushClient) (given put : List ℕ) (e : ClientError) (ending : Ending)
+refused_pair : (input : Input) (limit : ℕ) (c : PushClient) (given put : List ℕ) (e : ClientError)
+    (ending : Ending)
     → Fits input limit c given → (e ≡ client.OutOfMemory → ⊥) → c.state ≡ push_state_behind (Err e)
     → conversation input given ≡ Over ending put → error_of ending.outcome ≡ Some e
     → Pair input limit c given put (Err e)
@@ -192,7 +195,8 @@ served_pair input one limit c notes inbox given done put old_out new_out fed by 
         → c.state ≡ push_state_behind (answer_behind r c.room c.notes.closed)
         → Pair input limit c given (put ++ out) (answer_behind r c.room c.notes.closed)
     go (Ok false) stops there =
-        let comes_here = subst (λ (n : Notes). PushWaits input c.asked n before (put ++ out)) (sym stops.0) here in
+        let comes_here =
+        subst (λ (n : Notes). PushWaits input c.asked n before (put ++ out)) (sym stops.0) here in
         let partial =
         ap (λ (n : Notes). front n.standing.version c.inbox) stops.0
         ∙ ap (front s.notes.standing.version) stops.1 ∙ stops.2 in
@@ -200,7 +204,8 @@ served_pair input one limit c notes inbox given done put old_out new_out fed by 
         ∙ ap (λ (l : List ℕ). before ++ l) (sym stops.1)) comes_here partial there
     go (Ok true) stops there =
         let turn = ap (λ i. turn_by notes_book i s.notes stops.0 s.notes.first_passed) (sym by) ∙ stops.4 in
-        let k = closes input c.asked s.notes c.notes before (put ++ out) s.left stops.0 stops.1 here stops.2 turn in
+        let k =
+        closes input c.asked s.notes c.notes before (put ++ out) s.left stops.0 stops.1 here stops.2 turn in
         let ended = before ++ take stops.1 s.left in
         let split : given ≡ ended ++ c.inbox =
         all ∙ ap (λ (l : List ℕ). before ++ l) (sym (take-append-drop stops.1 s.left))

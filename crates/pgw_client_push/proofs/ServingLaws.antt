@@ -13,7 +13,8 @@ use Rattle.pgw_dialogue.specs.Machine.{AdvancesRun, NotesCourse, CutsFront}
 use Rattle.pgw_dialogue.proofs.RowLaws.{run_nothing}
 use Rattle.pgw_client_push.specs.Serving.{InboxLeadsTo, Serves}
 
-pub first : (input : Input) (notes : Notes) (inbox out : List ℕ) → InboxLeadsTo input notes notes inbox inbox out out
+pub first : (input : Input) (notes : Notes) (inbox out : List ℕ)
+    → InboxLeadsTo input notes notes inbox inbox out out
 first input notes inbox out = record {
   taken = [];
   cut = refl;

@@ -149,7 +149,8 @@ comes_over input asked notes done put bytes end c leads =
     let a = c.notes_at in
     let f = notes_behind (length a.before) a.earlier in
     let w = wide_run input asked notes c.talk done put bytes a c.waits in
-    over_in input (conversation input (done ++ bytes)) (map_end f end) put (w.0 ∙ ap (map_course f (map_end f)) (leads put))
+    over_in input (conversation input (done ++ bytes)) (map_end f end) put (w.0
+    ∙ ap (map_course f (map_end f)) (leads put))
 
 -- with the front of a message behind it, it waits within the message
 pub comes_waits : (input : Input) (asked : Option (List Request)) (notes : Notes) (done put bytes : List ℕ)
@@ -189,7 +190,8 @@ part_waits input notes g m len whole long =
 -- the events of a whole conversation
 whole_heard : (t : Talk) → t.open_events ≡ [] → t.passed ≡ [] → heard_of t ≡ all_events t.closed
 whole_heard t none clean =
-    sym (clean_heard t clean) ∙ ap (λ (l : List Event). all_events t.closed ++ l) none ∙ append-nil (all_events t.closed)
+    sym (clean_heard t clean) ∙ ap (λ (l : List Event). all_events t.closed ++ l) none
+    ∙ append-nil (all_events t.closed)
 
 no_tally_is : tally_of [] ≡ no_tally
 unfolding tally_of
@@ -254,7 +256,8 @@ closes input asked notes new done put left m len c whole turn =
     let heard = whole_heard t cause.1 cause.2 in
     let got : SpellsGot (first_standing input.config) (all_events t.closed) final.done =
     subst (λ (es : List Event). SpellsGot (first_standing input.config) es final.done) heard final.got in
-    let sent : EncodesSent (all_events t.closed) put = subst (λ (es : List Event). EncodesSent es put) heard final.put in
+    let sent : EncodesSent (all_events t.closed) put =
+    subst (λ (es : List Event). EncodesSent es put) heard final.put in
     let part = take (len - 1) g in
     let last = drop (len - 1) g in
     let cut : done ++ g ≡ (done ++ part) ++ last =
@@ -264,8 +267,10 @@ closes input asked notes new done put left m len c whole turn =
     (sym final.begins
     ∙ cut) (omega (arith, length-drop (len - 1) g, long, some.0))
     (comes_waits input asked notes done put part c (part_waits input notes g m len alone long)) in
-    let is : all ≡ final.done = final.begins ∙ ap (λ (l : List ℕ). final.done ++ l) none ∙ append-nil final.done in
-    let noted_is : view input t ≡ f (record new { closed = suc new.closed }) = ap (λ (x : End Notes). x.notes) o.2 in
+    let is : all ≡ final.done =
+    final.begins ∙ ap (λ (l : List ℕ). final.done ++ l) none ∙ append-nil final.done in
+    let noted_is : view input t ≡ f (record new { closed = suc new.closed }) =
+    ap (λ (x : End Notes). x.notes) o.2 in
     record {
       segments = t.closed;
       transcript = cause.0;

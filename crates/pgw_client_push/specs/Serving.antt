@@ -12,7 +12,8 @@ use Rattle.pgw_dialogue.specs.Machine.{runs, whole_end}
 use Rattle.pgw_dialogue.specs.Wire.{Unless}
 
 -- the front of the inbox alone led there, and this was put out
-pub record InboxLeadsTo (input : Input) (old notes : Notes) (inbox left old_out new_out : List ℕ) :
+pub record InboxLeadsTo (input : Input) (old notes : Notes) (inbox left old_out new_out : List ℕ)
+    :
     Type 0 where
   pub taken : List ℕ
   pub cut : inbox ≡ taken ++ left
@@ -22,7 +23,8 @@ pub record InboxLeadsTo (input : Input) (old notes : Notes) (inbox left old_out 
 
 -- What stands at the front then: no whole message; the message that closes the segment, which is taken; or what the
 -- conversation ends with.
-abbrev pub PushStopsAtFront : Input → Notes → List ℕ → Notes → List ℕ → Result Bool ClientError → Type 0
+abbrev pub PushStopsAtFront : Input → Notes → List ℕ → Notes → List ℕ → Result Bool ClientError
+    → Type 0
 PushStopsAtFront input notes left new rest (Ok false) =
     (new ≡ notes) × (rest ≡ left) × (front notes.standing.version left ≡ More)
 PushStopsAtFront input notes left new rest (Ok true) =

@@ -102,7 +102,8 @@ pub record StandsIdle (c : PushClient) (input : Input) (given put : List ℕ) : 
 abbrev pub PushStandsIn : State → PushClient → Input → ℕ → List ℕ → List ℕ → Type 0
 PushStandsIn state.Open c input limit given put = StandsOpen c input given put
 PushStandsIn state.Idle c input limit given put = StandsIdle c input given put
-PushStandsIn state.Refused c input limit given put = DialogueSettles (conversation input given) limit given put
+PushStandsIn state.Refused c input limit given put =
+    DialogueSettles (conversation input given) limit given put
 PushStandsIn state.Starved c input limit given put = Begins (conversation input given) put
 
 pub record StandsFor (input : Input) (limit : ℕ) (c : PushClient) (given put : List ℕ) : Type

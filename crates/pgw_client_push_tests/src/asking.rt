@@ -2,8 +2,8 @@
 ghost use Rattle.std.specs.Prelude.{◌<◌};
 
 use bytes::BytesMut;
-use pgw_config::config::Config;
 use pgw_client_push::PushClient;
+use pgw_config::config::Config;
 use pgw_session::types::{Answer, Request, Response};
 use pgw_types::text::Text;
 use std::alloc::Global;

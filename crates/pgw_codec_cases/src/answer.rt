@@ -3,8 +3,8 @@
 use anyhow::{Context, Result, ensure};
 use bytes::BytesMut;
 use pgw_backend::backend::PgWireBackendMessage;
-use pgw_frontend::frontend::PgWireFrontendMessage;
 use pgw_control::cancel::CancelRequest;
+use pgw_frontend::frontend::PgWireFrontendMessage;
 use pgw_types::context::DecodeContext;
 use pgw_types::error::PgWireResult;
 use pgw_types::listed::Duplicate;

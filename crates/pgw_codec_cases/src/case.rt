@@ -3,8 +3,8 @@
 use crate::answer::answer;
 use anyhow::{Result, bail};
 use pgw_backend::backend::PgWireBackendMessage;
-use pgw_frontend::frontend::PgWireFrontendMessage;
 use pgw_control::cancel::CancelRequest;
+use pgw_frontend::frontend::PgWireFrontendMessage;
 use pgw_types::context::{DecodeContext, ProtocolVersion};
 use std::alloc::Global;
 

@@ -18,7 +18,8 @@ fits_of : (z : ℤ) → reach z < 2 ^ 63 → SFits w64 z
 fits_of (pos n) h = record { sfits = h }
 fits_of (negsuc n) h = record { sfits = h }
 
-pub parsed : {E : Type 0} (text : List ℕ) (r : Result ℤ E) → ParsesSigned w64 10 text r → result_ok r ≡ signed_in text
+pub parsed : {E : Type 0} (text : List ℕ) (r : Result ℤ E) → ParsesSigned w64 10 text r
+    → result_ok r ≡ signed_in text
 unfolding signed_in
 parsed text (Ok n) h =
     let digits = without_leading_sign text in

@@ -16,13 +16,17 @@ use Rattle.pgw_config.specs.declared.config.Config.{Config}
 
 -- ---- a text has one outcome
 
-pub parsed : (text : List ℕ) (cut : Cut) (result : Result Config ConfigError) → HasCut text cut → IsConfigAnswer result (outcome_of cut) → IsParsed text result
+pub parsed : (text : List ℕ) (cut : Cut) (result : Result Config ConfigError) → HasCut text cut
+    → IsConfigAnswer result (outcome_of cut) → IsParsed text result
 parsed text cut (Ok config) has is = (cut, has, is)
 parsed text cut (Err e) has is = λ memory. (cut, has, is memory)
 
-pub only : (text : List ℕ) (cut : Cut) (result : Result Config ConfigError) → ((other : Cut) → HasCut text other → other ≡ cut) → IsConfigAnswer result (outcome_of cut)
+pub only : (text : List ℕ) (cut : Cut) (result : Result Config ConfigError)
+    → ((other : Cut) → HasCut text other → other ≡ cut) → IsConfigAnswer result (outcome_of cut)
     → (outcome : Result Config ConfigError) → HasOutcome text outcome → IsConfigAnswer result outcome
-only text cut result one is outcome (other, has, it) = subst (λ (o : Result Config ConfigError). IsConfigAnswer result o) (sym (ap outcome_of (one other has)) ∙ it) is
+only text cut result one is outcome (other, has, it) =
+    subst (λ (o : Result Config ConfigError). IsConfigAnswer result o) (sym (ap outcome_of (one other has))
+    ∙ it) is
 
 -- ---- what it gives
 
@@ -33,11 +37,15 @@ ended_ok (Some fault.Syntax) d config h = cc
 ended_ok (Some fault.Host) d config h = cc
 ended_ok (Some (fault.NotUtf8 bytes)) d config h = cc
 
-all_taken : (e : Option Fault) (r : Result Config ConfigError) (config : Config) → next_applied (parse_result e) r ≡ Ok config → r ≡ Ok config
+all_taken : (e : Option Fault) (r : Result Config ConfigError) (config : Config)
+    → next_applied (parse_result e) r ≡ Ok config → r ≡ Ok config
 all_taken e (Ok d) config h = ap Ok (ended_ok e d config h)
 all_taken e (Err why) config h = cc
 
-pub given : (text : List ℕ) (cut : Cut) (result : Result Config ConfigError) → ((other : Cut) → HasCut text other → other ≡ cut) → IsConfigAnswer result (outcome_of cut)
+pub given : (text : List ℕ) (cut : Cut) (result : Result Config ConfigError)
+    → ((other : Cut) → HasCut text other → other ≡ cut) → IsConfigAnswer result (outcome_of cut)
     → IfOk result (λ config. (other : Cut) → HasCut text other → GivesConfig other.parts config)
-given text cut (Ok config) one is = λ other has. gives other.parts config (all_taken other.fault (all_applied no_config other.parts) config (ap outcome_of (one other has) ∙ is))
+given text cut (Ok config) one is =
+    λ other has. gives other.parts config
+    (all_taken other.fault (all_applied no_config other.parts) config (ap outcome_of (one other has) ∙ is))
 given text cut (Err e) one is = tt

@@ -16,7 +16,9 @@ first_port (port ∷ more) = port
 
 -- a directory that is empty or ends with a slash takes no further one
 abbrev pub slash_after : List ℕ → List ℕ
-slash_after directory = if length directory == 0 || slice_index directory (length directory - 1) == 47 then codes "" else codes "/"
+slash_after directory =
+    if length directory == 0 || slice_index directory (length directory - 1) == 47 then codes ""
+    else codes "/"
 
 -- the file of a server's socket in a directory
 abbrev pub socket : List ℕ → ℕ → List ℕ

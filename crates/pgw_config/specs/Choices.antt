@@ -55,8 +55,13 @@ with_value (Some x) set = Some (set x)
 
 -- the configuration with a choice, where the word is one of the key's
 abbrev pub with_choice : Config → ChoiceKey → List ℕ → Option Config
-with_choice config choice.SslMode word = with_value (ssl_mode_of word) (λ x. record config { ssl_mode = x })
-with_choice config choice.SslNegotiation word = with_value (ssl_negotiation_of word) (λ x. record config { ssl_negotiation = x })
-with_choice config choice.TargetSessionAttrs word = with_value (target_of_word word) (λ x. record config { target_session_attrs = x })
-with_choice config choice.ChannelBinding word = with_value (channel_binding_of word) (λ x. record config { channel_binding = x })
-with_choice config choice.LoadBalanceHosts word = with_value (load_balance_of word) (λ x. record config { load_balance_hosts = x })
+with_choice config choice.SslMode word =
+    with_value (ssl_mode_of word) (λ x. record config { ssl_mode = x })
+with_choice config choice.SslNegotiation word =
+    with_value (ssl_negotiation_of word) (λ x. record config { ssl_negotiation = x })
+with_choice config choice.TargetSessionAttrs word =
+    with_value (target_of_word word) (λ x. record config { target_session_attrs = x })
+with_choice config choice.ChannelBinding word =
+    with_value (channel_binding_of word) (λ x. record config { channel_binding = x })
+with_choice config choice.LoadBalanceHosts word =
+    with_value (load_balance_of word) (λ x. record config { load_balance_hosts = x })

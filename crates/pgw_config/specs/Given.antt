@@ -68,17 +68,21 @@ switch_in value = is_not_zero (number_in 64 value)
 -- ---- lists
 
 abbrev pub hosts_in_part : Part → List Host
-hosts_in_part (part.Pair name value) = if is name (codes "host") then hosts_of (pieces_at 44 value) else []
+hosts_in_part (part.Pair name value) =
+    if is name (codes "host") then hosts_of (pieces_at 44 value) else []
 hosts_in_part (part.Host name) = host_named name ∷ []
 hosts_in_part (part.Password password) = []
 
 abbrev pub hostaddrs_in : Part → List HostAddr
-hostaddrs_in (part.Pair name value) = if is name (codes "hostaddr") then unwrap_or (all_read addr_of (pieces_at 44 value)) [] else []
+hostaddrs_in (part.Pair name value) =
+    if is name (codes "hostaddr") then unwrap_or (all_read addr_of (pieces_at 44 value)) [] else
+    []
 hostaddrs_in (part.Host name) = []
 hostaddrs_in (part.Password password) = []
 
 abbrev pub ports_in : Part → List ℕ
-ports_in (part.Pair name value) = if is name (codes "port") then unwrap_or (all_read port_of (pieces_at 44 value)) [] else []
+ports_in (part.Pair name value) =
+    if is name (codes "port") then unwrap_or (all_read port_of (pieces_at 44 value)) [] else []
 ports_in (part.Host name) = []
 ports_in (part.Password password) = []
 
@@ -94,20 +98,31 @@ pub record GivesConfig (parts : List Part) (config : Config) : Type 0 where
   pub password : config.password ≡ last_of (filter_map password_in_part parts)
   pub dbname : config.dbname ≡ last_of (part_values (codes "dbname") parts)
   pub options : config.options ≡ last_of (part_values (codes "options") parts)
-  pub application_name : config.application_name ≡ last_of (part_values (codes "application_name") parts)
-  pub ssl_mode : config.ssl_mode ≡ unwrap_or (last_in ssl_mode_of (codes "sslmode") parts) ssl_mode.Prefer
-  pub ssl_negotiation : config.ssl_negotiation ≡ unwrap_or (last_in ssl_negotiation_of (codes "sslnegotiation") parts) ssl_negotiation.Postgres
+  pub application_name : config.application_name ≡ last_of
+      (part_values (codes "application_name") parts)
+  pub ssl_mode : config.ssl_mode ≡ unwrap_or (last_in ssl_mode_of (codes "sslmode") parts)
+      ssl_mode.Prefer
+  pub ssl_negotiation : config.ssl_negotiation ≡ unwrap_or
+      (last_in ssl_negotiation_of (codes "sslnegotiation") parts) ssl_negotiation.Postgres
   pub host : config.host ≡ flat_map hosts_in_part parts
   pub hostaddr : config.hostaddr ≡ flat_map hostaddrs_in parts
   pub port : config.port ≡ flat_map ports_in parts
   pub connect_timeout : config.connect_timeout ≡ last_in time_in (codes "connect_timeout") parts
-  pub tcp_user_timeout : config.tcp_user_timeout ≡ last_in time_in (codes "tcp_user_timeout") parts
-  pub keepalives : config.keepalives ≡ unwrap_or (last_in switch_in (codes "keepalives") parts) true
-  pub keepalives_idle : config.keepalives_idle ≡ unwrap_or (last_in time_in (codes "keepalives_idle") parts) 7200
-  pub keepalives_interval : config.keepalives_interval ≡ last_in time_in (codes "keepalives_interval") parts
-  pub keepalives_retries : config.keepalives_retries ≡ last_in (number_in 32) (codes "keepalives_retries") parts
-  pub target_session_attrs : config.target_session_attrs ≡ unwrap_or (last_in target_of_word (codes "target_session_attrs") parts) target.Any
-  pub channel_binding : config.channel_binding ≡ unwrap_or (last_in channel_binding_of (codes "channel_binding") parts) channel_binding.Prefer
+  pub tcp_user_timeout : config.tcp_user_timeout ≡ last_in time_in (codes "tcp_user_timeout")
+      parts
+  pub keepalives : config.keepalives ≡ unwrap_or (last_in switch_in (codes "keepalives") parts)
+      true
+  pub keepalives_idle : config.keepalives_idle ≡ unwrap_or
+      (last_in time_in (codes "keepalives_idle") parts) 7200
+  pub keepalives_interval : config.keepalives_interval ≡ last_in time_in
+      (codes "keepalives_interval") parts
+  pub keepalives_retries : config.keepalives_retries ≡ last_in (number_in 32)
+      (codes "keepalives_retries") parts
+  pub target_session_attrs : config.target_session_attrs ≡ unwrap_or
+      (last_in target_of_word (codes "target_session_attrs") parts) target.Any
+  pub channel_binding : config.channel_binding ≡ unwrap_or
+      (last_in channel_binding_of (codes "channel_binding") parts) channel_binding.Prefer
   pub certificate_hash : config.certificate_hash ≡ None
-  pub load_balance_hosts : config.load_balance_hosts ≡ unwrap_or (last_in load_balance_of (codes "load_balance_hosts") parts) load_balance.Disable
+  pub load_balance_hosts : config.load_balance_hosts ≡ unwrap_or
+      (last_in load_balance_of (codes "load_balance_hosts") parts) load_balance.Disable
   pub protocol_version : config.protocol_version ≡ PROTOCOL3_0

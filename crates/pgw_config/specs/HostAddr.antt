@@ -11,13 +11,16 @@ use Rattle.pgw_types.specs.declared.address.HostAddr.TheVariants.{V4, V6}
 -- digits alone, whose number has so many bits
 unfoldable pub digits_in : ℕ → ℕ → List ℕ → Option ℕ
 digits_in radix bits text =
-    if nat_lt 0 (length text) && (list_all (λ c. is_digit c radix) text && nat_lt (digits_value radix text) (2 ^ bits)) then Some (digits_value radix text) else None
+    if nat_lt 0 (length text) &&
+    (list_all (λ c. is_digit c radix) text && nat_lt (digits_value radix text) (2 ^ bits))
+    then Some (digits_value radix text) else None
 
 -- ---- IPv4
 
 -- a decimal number to 255 without leading zeros
 unfoldable pub octet_of : List ℕ → Option ℕ
-octet_of text = if nat_lt 1 (length text) && slice_index text 0 == 48 then None else digits_in 10 8 text
+octet_of text =
+    if nat_lt 1 (length text) && slice_index text 0 == 48 then None else digits_in 10 8 text
 
 -- a list of so many elements
 abbrev pub exactly : ℕ → Option (List ℕ) → Option (List ℕ)
@@ -36,7 +39,9 @@ group_of text = if nat_lt (length text) 5 then digits_in 16 16 text else None
 
 -- an IPv4 text stands for two groups
 abbrev pub as_groups : List ℕ → List ℕ
-as_groups octets = (256 * slice_index octets 0 + slice_index octets 1) ∷ (256 * slice_index octets 2 + slice_index octets 3) ∷ []
+as_groups octets =
+    (256 * slice_index octets 0 + slice_index octets 1) ∷
+    (256 * slice_index octets 2 + slice_index octets 3) ∷ []
 
 abbrev pub groups_with_last : Option (List ℕ) → Option (List ℕ) → Option (List ℕ)
 groups_with_last None ys = None
@@ -54,7 +59,9 @@ last_group (piece ∷ pieces) = last_by piece (v4_of piece)
 
 -- the groups at the end of an address
 unfoldable pub tail_of : List (List ℕ) → Option (List ℕ)
-tail_of pieces = groups_with_last (all_read group_of (take (length pieces - 1) pieces)) (last_group (drop (length pieces - 1) pieces))
+tail_of pieces =
+    groups_with_last (all_read group_of (take (length pieces - 1) pieces))
+    (last_group (drop (length pieces - 1) pieces))
 
 -- what may stand behind `::`: nothing, or groups
 abbrev pub behind_colons : List (List ℕ) → Option (List ℕ)
@@ -70,13 +77,15 @@ abbrev pub filled : Option (List ℕ) → Option (List ℕ) → Option (List ℕ
 filled None back = None
 filled (Some front) None = None
 filled (Some front) (Some back) =
-    if nat_lt (length front + length back) 8 then Some (front ++ take (8 - (length front + length back)) zeros ++ back) else None
+    if nat_lt (length front + length back) 8 then Some
+    (front ++ take (8 - (length front + length back)) zeros ++ back) else None
 
 -- an empty piece is a `::`, and there is a piece before it
 abbrev pub cut_by : List (List ℕ) → Option ℕ → Option (List ℕ)
 cut_by pieces None = tail_of pieces
 cut_by pieces (Some zero) = None
-cut_by pieces (Some (suc i)) = filled (all_read group_of (take (suc i) pieces)) (behind_colons (drop (suc i + 1) pieces))
+cut_by pieces (Some (suc i)) =
+    filled (all_read group_of (take (suc i) pieces)) (behind_colons (drop (suc i + 1) pieces))
 
 -- the pieces between colons; two empty ones are a `::` at the front
 abbrev pub groups_of : List (List ℕ) → Option (List ℕ)

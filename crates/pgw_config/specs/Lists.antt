@@ -20,6 +20,11 @@ port_of text = if length text == 0 then Some 5432 else number_in 16 text
 
 -- the configuration with the elements of a list behind those that it has, where each can be read
 abbrev pub with_list : Config → ListKey → List ℕ → Option Config
-with_list config list.Host value = Some (record config { host = config.host ++ hosts_of (pieces_at 44 value) })
-with_list config list.HostAddr value = with_value (read_onto addr_of config.hostaddr (pieces_at 44 value)) (λ addrs. record config { hostaddr = addrs })
-with_list config list.Port value = with_value (read_onto port_of config.port (pieces_at 44 value)) (λ ports. record config { port = ports })
+with_list config list.Host value =
+    Some (record config { host = config.host ++ hosts_of (pieces_at 44 value) })
+with_list config list.HostAddr value =
+    with_value (read_onto addr_of config.hostaddr (pieces_at 44 value))
+    (λ addrs. record config { hostaddr = addrs })
+with_list config list.Port value =
+    with_value (read_onto port_of config.port (pieces_at 44 value))
+    (λ ports. record config { port = ports })

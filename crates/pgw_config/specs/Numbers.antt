@@ -18,7 +18,9 @@ reach (negsuc n) = n
 unfoldable pub signed_in : List ℕ → Option ℤ
 signed_in text =
     let digits = without_leading_sign text in
-    if nat_lt 0 (length digits) && (list_all (λ c. is_digit c 10) digits && nat_lt (reach (signed_digits_value 10 text)) (2 ^ 63)) then Some (signed_digits_value 10 text) else None
+    if nat_lt 0 (length digits) &&
+    (list_all (λ c. is_digit c 10) digits && nat_lt (reach (signed_digits_value 10 text))
+    (2 ^ 63)) then Some (signed_digits_value 10 text) else None
 
 -- a time of zero or less leaves the earlier one
 abbrev pub later_idle : ℕ → ℤ → ℕ
@@ -33,9 +35,19 @@ later_time earlier (negsuc n) = earlier
 
 -- the configuration with a number, where the text is one that the key takes
 abbrev pub with_number : Config → NumberKey → List ℕ → Option Config
-with_number config number.ConnectTimeout text = with_value (signed_in text) (λ t. record config { connect_timeout = later_time config.connect_timeout t })
-with_number config number.TcpUserTimeout text = with_value (signed_in text) (λ t. record config { tcp_user_timeout = later_time config.tcp_user_timeout t })
-with_number config number.Keepalives text = with_value (number_in 64 text) (λ n. record config { keepalives = not (n == 0) })
-with_number config number.KeepalivesIdle text = with_value (signed_in text) (λ t. record config { keepalives_idle = later_idle config.keepalives_idle t })
-with_number config number.KeepalivesInterval text = with_value (signed_in text) (λ t. record config { keepalives_interval = later_time config.keepalives_interval t })
-with_number config number.KeepalivesRetries text = with_value (number_in 32 text) (λ n. record config { keepalives_retries = Some n })
+with_number config number.ConnectTimeout text =
+    with_value (signed_in text)
+    (λ t. record config { connect_timeout = later_time config.connect_timeout t })
+with_number config number.TcpUserTimeout text =
+    with_value (signed_in text)
+    (λ t. record config { tcp_user_timeout = later_time config.tcp_user_timeout t })
+with_number config number.Keepalives text =
+    with_value (number_in 64 text) (λ n. record config { keepalives = not (n == 0) })
+with_number config number.KeepalivesIdle text =
+    with_value (signed_in text)
+    (λ t. record config { keepalives_idle = later_idle config.keepalives_idle t })
+with_number config number.KeepalivesInterval text =
+    with_value (signed_in text)
+    (λ t. record config { keepalives_interval = later_time config.keepalives_interval t })
+with_number config number.KeepalivesRetries text =
+    with_value (number_in 32 text) (λ n. record config { keepalives_retries = Some n })

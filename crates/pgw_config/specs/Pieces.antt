@@ -8,7 +8,8 @@ pushed (Some all) None = None
 pushed (Some all) (Some next) = Some (all ++ next ∷ [])
 
 -- a list, and behind it what each piece is read as, where each can be read
-abbrev pub read_onto : {A : Type 0} → (List ℕ → Option A) → List A → List (List ℕ) → Option (List A)
+abbrev pub read_onto : {A : Type 0} → (List ℕ → Option A) → List A → List (List ℕ)
+    → Option (List A)
 read_onto read all pieces = fold (λ so_far piece. pushed so_far (read piece)) (Some all) pieces
 
 abbrev pub all_read : {A : Type 0} → (List ℕ → Option A) → List (List ℕ) → Option (List A)

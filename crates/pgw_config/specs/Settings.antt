@@ -44,11 +44,13 @@ pair_set config name value = set_by config name value (setting_key name)
 
 abbrev pub applied : Config → Part → Result Config ConfigError
 applied config (part.Pair name value) = pair_set config name value
-applied config (part.Host name) = Ok (record config { host = config.host ++ host_named name ∷ [] })
+applied config (part.Host name) =
+    Ok (record config { host = config.host ++ host_named name ∷ [] })
 applied config (part.Password password) = Ok (record config { password = Some password })
 
 -- one part after the other, up to the first that is refused
-abbrev pub next_applied : (Config → Result Config ConfigError) → Result Config ConfigError → Result Config ConfigError
+abbrev pub next_applied : (Config → Result Config ConfigError) → Result Config ConfigError
+    → Result Config ConfigError
 next_applied rest (Ok config) = rest config
 next_applied rest (Err e) = Err e
 

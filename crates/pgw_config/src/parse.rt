@@ -17,7 +17,8 @@ use pgw_types::config_error::{ConfigError, ConfigResult};
 use std::alloc::Global;
 
 fn refusal(alloc: Global, fault: Fault) -> ConfigError
-    ensures { (config : TheConfig) → IsConfigAnswer (Err result) (parse_result (Some fault) config) }
+    ensures { (config : TheConfig) → IsConfigAnswer (Err result)
+        (parse_result (Some fault) config) }
 {
     match fault {
         Fault::Syntax => invalid(alloc, "syntax"),

@@ -60,7 +60,8 @@ fn set_value(alloc: Global, config: &mut Config, key: Key, value: &str) -> Resul
 
 fn set_pair(alloc: Global, config: &mut Config, name: &str, value: &str) -> ConfigResult<()>
     ensures set { OnOk result (pair_set config.old name.now value.now ≡ Ok config.new) }
-    ensures refused { IfErr result (λ e. IsConfigAnswer (Err e) (pair_set config.old name.now value.now)) }
+    ensures refused { IfErr result (λ e. IsConfigAnswer (Err e)
+        (pair_set config.old name.now value.now)) }
 {
     let Some(key) = key_named(name) else {
         return Err(unknown(alloc, name));

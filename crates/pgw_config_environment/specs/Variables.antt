@@ -12,7 +12,8 @@ quoted_character c =
 
 -- KEY='VALUE' and a blank
 abbrev pub variable_pair : List ℕ → List ℕ → List ℕ
-variable_pair key value = key ++ codes "='" ++ flat_map quoted_character (chars value) ++ codes "' "
+variable_pair key value =
+    key ++ codes "='" ++ flat_map quoted_character (chars value) ++ codes "' "
 
 -- a variable that is empty is none
 unfoldable pub variable_text : List ℕ → Option (List ℕ) → List ℕ

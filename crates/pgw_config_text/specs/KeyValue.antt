@@ -26,8 +26,10 @@ ends_value quoted c = if quoted then c == 39 else is_whitespace c
 -- characters that write a value: each stands for itself, and one that a backslash escapes for itself whatever it is
 pub data WritesKeyValue : (ℕ → Bool) → List ℕ → List ℕ → Type 0 where
   nothing : {ends : ℕ → Bool} → WritesKeyValue ends [] []
-  itself : {ends : ℕ → Bool} {c : ℕ} {cs value : List ℕ} → (c == 92) ≡ false → ends c ≡ false → WritesKeyValue ends cs value → WritesKeyValue ends (c ∷ cs) (encode_utf8 c ++ value)
-  escaped : {ends : ℕ → Bool} {c : ℕ} {cs value : List ℕ} → WritesKeyValue ends cs value → WritesKeyValue ends (92 ∷ c ∷ cs) (encode_utf8 c ++ value)
+  itself : {ends : ℕ → Bool} {c : ℕ} {cs value : List ℕ} → (c == 92) ≡ false → ends c ≡ false
+      → WritesKeyValue ends cs value → WritesKeyValue ends (c ∷ cs) (encode_utf8 c ++ value)
+  escaped : {ends : ℕ → Bool} {c : ℕ} {cs value : List ℕ} → WritesKeyValue ends cs value
+      → WritesKeyValue ends (92 ∷ c ∷ cs) (encode_utf8 c ++ value)
 
 -- a value without quotes is not empty, and no quote begins it
 abbrev pub IsBareValue : List ℕ → List ℕ → Type 0
@@ -36,13 +38,19 @@ IsBareValue text value = ((slice_index text 0 == 39) ≡ false) × ((length valu
 -- a text is what writes this value, and what stands behind it
 pub data IsConninfoValue : List ℕ → List ℕ → List ℕ → Type 0 where
   -- in quotes
-  quoted : {text body value rest : List ℕ} → text ≡ 39 ∷ body ++ 39 ∷ rest → WritesKeyValue (ends_value true) body value → IsConninfoValue text value rest
+  quoted : {text body value rest : List ℕ} → text ≡ 39 ∷ body ++ 39 ∷ rest
+      → WritesKeyValue (ends_value true) body value → IsConninfoValue text value rest
   -- up to white space
-  bare : {c : ℕ} {text body value rest : List ℕ} → text ≡ body ++ c ∷ rest → is_whitespace c ≡ true → WritesKeyValue (ends_value false) body value → IsBareValue text value → IsConninfoValue text value (c ∷ rest)
+  bare : {c : ℕ} {text body value rest : List ℕ} → text ≡ body ++ c ∷ rest
+      → is_whitespace c ≡ true → WritesKeyValue (ends_value false) body value
+      → IsBareValue text value → IsConninfoValue text value (c ∷ rest)
   -- up to the end,
-  last : {text value : List ℕ} → WritesKeyValue (ends_value false) text value → IsBareValue text value → IsConninfoValue text value []
+  last : {text value : List ℕ} → WritesKeyValue (ends_value false) text value
+      → IsBareValue text value → IsConninfoValue text value []
   -- where a backslash stands for nothing
-  stopped : {text body value : List ℕ} → text ≡ body ++ 92 ∷ [] → WritesKeyValue (ends_value false) body value → IsBareValue text value → IsConninfoValue text value []
+  stopped : {text body value : List ℕ} → text ≡ body ++ 92 ∷ []
+      → WritesKeyValue (ends_value false) body value → IsBareValue text value
+      → IsConninfoValue text value []
 
 -- a text is white space, a key, white space, an equals sign, white space, a value, and what stands behind it
 pub record IsKeyValuePair (text key value rest : List ℕ) : Type 0 where
@@ -62,5 +70,9 @@ pub record IsKeyValuePair (text key value rest : List ℕ) : Type 0 where
 -- a text is cut into these pairs, up to white space at its end, or up to where no pair begins
 pub data IsCut : List ℕ → List Part → Option Fault → Type 0 where
   ended : {text : List ℕ} → IsBlank text → IsCut text [] None
-  no_pair : {text : List ℕ} → (IsBlank text → ⊥) → ((key value rest : List ℕ) → IsKeyValuePair text key value rest → ⊥) → IsCut text [] (Some fault.Syntax)
-  paired : {text key value rest : List ℕ} {parts : List Part} {e : Option Fault} → IsKeyValuePair text key value rest → IsCut rest parts e → IsCut text (part.Pair key value ∷ parts) e
+  no_pair : {text : List ℕ} → (IsBlank text → ⊥)
+      → ((key value rest : List ℕ) → IsKeyValuePair text key value rest → ⊥)
+      → IsCut text [] (Some fault.Syntax)
+  paired : {text key value rest : List ℕ} {parts : List Part} {e : Option Fault}
+      → IsKeyValuePair text key value rest → IsCut rest parts e
+      → IsCut text (part.Pair key value ∷ parts) e

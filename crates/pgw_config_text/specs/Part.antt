@@ -11,7 +11,8 @@ Item = Result Part Fault
 -- the parts up to the first fault
 abbrev pub up_to_fault : List Item → Cut
 up_to_fault [] = record { parts = []; fault = None }
-up_to_fault (Ok part ∷ items) = record { parts = part ∷ (up_to_fault items).parts; fault = (up_to_fault items).fault }
+up_to_fault (Ok part ∷ items) =
+    record { parts = part ∷ (up_to_fault items).parts; fault = (up_to_fault items).fault }
 up_to_fault (Err fault ∷ items) = record { parts = []; fault = Some fault }
 
 -- ---- how a reader goes on

@@ -33,7 +33,8 @@ behind_text front value = (front ++ value.0, value.1)
 -- what a value stands for, and how many characters it has, where one that no backslash escapes ends it. A backslash stands for the character after it
 unfoldable pub conninfo_value : (ℕ → Bool) → Bool → ℕ → List ℕ → List ℕ × Option ℕ
 conninfo_value ends escaped text_before [] = ([], None)
-conninfo_value ends true text_before (c ∷ cs) = behind_text (encode_utf8 c) (conninfo_value ends false (text_before + 1) cs)
+conninfo_value ends true text_before (c ∷ cs) =
+    behind_text (encode_utf8 c) (conninfo_value ends false (text_before + 1) cs)
 conninfo_value ends false text_before (c ∷ cs) =
     if c == 92 then conninfo_value ends true (text_before + 1) cs
     else if ends c then ([], Some text_before)
@@ -54,20 +55,25 @@ quoted_by key text (value, Some n) = Pair key value (drop (n + 1) text)
 
 -- another value goes up to white space or the end, and is not empty
 abbrev pub bare_by : List ℕ → List ℕ → List ℕ × Option ℕ → PairFront
-bare_by key text value = if length value.0 == 0 then Faulty else Pair key value.0 (from value.1 text)
+bare_by key text value =
+    if length value.0 == 0 then Faulty else Pair key value.0 (from value.1 text)
 
 abbrev pub with_value_at : List ℕ → List ℕ → PairFront
 with_value_at key text =
-    if slice_index text 0 == 39 then quoted_by key (drop 1 text) (conninfo_value (ends_value true) false 0 (drop 1 text))
+    if slice_index text 0 == 39 then quoted_by key (drop 1 text)
+    (conninfo_value (ends_value true) false 0 (drop 1 text))
     else bare_by key text (conninfo_value (ends_value false) false 0 text)
 
 -- behind a key: white space, an equals sign, white space, a value
 abbrev pub with_key_at : List ℕ → List ℕ → PairFront
 with_key_at key text =
-    if length key == 0 || not (slice_index text 0 == 61) then Faulty else with_value_at (flat_map encode_utf8 key) (behind_blank (drop 1 text))
+    if length key == 0 || not (slice_index text 0 == 61) then Faulty else with_value_at
+    (flat_map encode_utf8 key) (behind_blank (drop 1 text))
 
 abbrev pub from_key : List ℕ → PairFront
-from_key text = if length text == 0 then Nothing else with_key_at (key_at text) (behind_blank (behind_key text))
+from_key text =
+    if length text == 0 then Nothing else with_key_at (key_at text)
+    (behind_blank (behind_key text))
 
 unfoldable pub conninfo_front : List ℕ → PairFront
 conninfo_front text = from_key (behind_blank text)

@@ -12,7 +12,8 @@ url_or None other = other
 
 -- what stands behind the scheme of a URL
 abbrev pub url_in : List ℕ → Option (List ℕ)
-url_in text = url_or (behind_word (codes "postgres://") text) (behind_word (codes "postgresql://") text)
+url_in text =
+    url_or (behind_word (codes "postgres://") text) (behind_word (codes "postgresql://") text)
 
 abbrev pub HasCutBy : Option (List ℕ) → List ℕ → Cut → Type 0
 HasCutBy (Some rest) text cut = IsUrl rest cut

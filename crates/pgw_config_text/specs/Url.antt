@@ -34,7 +34,9 @@ password_in None = []
 password_in (Some written) = Ok (part.Password (percent_decode written)) ∷ []
 
 abbrev pub login_in : List ℕ → List Item
-login_in text = url_part (part.Pair (codes "user")) (url_text (before_mark 58 text)) ∷ password_in (behind_mark 58 text)
+login_in text =
+    url_part (part.Pair (codes "user")) (url_text (before_mark 58 text)) ∷ password_in
+    (behind_mark 58 text)
 
 -- they stand before the first at sign
 abbrev pub credentials_by : Option (List ℕ) → List ℕ → List Item
@@ -55,7 +57,8 @@ behind_credentials text = all_or (behind_mark 64 text) text
 
 -- a host and its port; an empty port is the usual one
 abbrev pub host_and_port : List ℕ → List ℕ → List Item
-host_and_port host port = url_part part.Host (url_text host) ∷ url_part (part.Pair (codes "port")) (url_text port) ∷ []
+host_and_port host port =
+    url_part part.Host (url_text host) ∷ url_part (part.Pair (codes "port")) (url_text port) ∷ []
 
 -- behind a bracket that closes a host: nothing, or a colon and a port
 abbrev pub closed_host : List ℕ → Option (List ℕ) → List Item
@@ -68,7 +71,8 @@ closed_host host (Some after) =
 -- a host in brackets, or one up to the first colon, and its port
 abbrev pub host_in : List ℕ → List Item
 host_in text =
-    if slice_index text 0 == 91 then closed_host (before_mark 93 (drop 1 text)) (behind_mark 93 (drop 1 text))
+    if slice_index text 0 == 91 then closed_host (before_mark 93 (drop 1 text))
+    (behind_mark 93 (drop 1 text))
     else host_and_port (before_mark 58 text) (or_empty (behind_mark 58 text))
 
 -- hosts have commas between them; an empty text has none
@@ -78,7 +82,8 @@ hosts_in text = if length text == 0 then [] else flat_map host_in (pieces_at 44 
 -- ---- the database, behind the hosts and a slash
 
 abbrev pub database_in : List ℕ → List Item
-database_in text = if length text == 0 then [] else url_part (part.Pair (codes "dbname")) (url_text text) ∷ []
+database_in text =
+    if length text == 0 then [] else url_part (part.Pair (codes "dbname")) (url_text text) ∷ []
 
 abbrev pub address_in : List ℕ → List Item
 address_in text = hosts_in (before_mark 47 text) ++ database_in (or_empty (behind_mark 47 text))
@@ -89,14 +94,18 @@ address_in text = hosts_in (before_mark 47 text) ++ database_in (or_empty (behin
 abbrev pub pair_of : Result (List ℕ) Fault → Result (List ℕ) Fault → Item
 pair_of (Err e) value = Err e
 pair_of (Ok key) (Err e) = Err e
-pair_of (Ok key) (Ok value) = if pointwise nat_eq key (codes "host") then Ok (part.Host value) else Ok (part.Pair key value)
+pair_of (Ok key) (Ok value) =
+    if pointwise nat_eq key (codes "host") then Ok (part.Host value) else Ok (part.Pair key value)
 
 -- a text is these pairs. A key goes up to the next equals sign, and its value up to the next ampersand or the end
 pub data ArePairs : List ℕ → List Item → Type 0 where
   ended : ArePairs [] []
-  no_pair : {text : List ℕ} → 0 < length text → behind_mark 61 text ≡ None → ArePairs text (Err fault.Syntax ∷ [])
-  paired : {text written : List ℕ} {pairs : List Item} → behind_mark 61 text ≡ Some written → ArePairs (or_empty (behind_mark 38 written)) pairs
-      → ArePairs text (pair_of (url_text (before_mark 61 text)) (url_text (before_mark 38 written)) ∷ pairs)
+  no_pair : {text : List ℕ} → 0 < length text → behind_mark 61 text ≡ None
+      → ArePairs text (Err fault.Syntax ∷ [])
+  paired : {text written : List ℕ} {pairs : List Item} → behind_mark 61 text ≡ Some written
+      → ArePairs (or_empty (behind_mark 38 written)) pairs
+      → ArePairs text (pair_of (url_text (before_mark 61 text))
+      (url_text (before_mark 38 written)) ∷ pairs)
 
 -- ---- the whole
 
@@ -104,4 +113,5 @@ pub data ArePairs : List ℕ → List Item → Type 0 where
 pub record IsUrl (text : List ℕ) (cut : Cut) : Type 0 where
   pub pairs : List Item
   pub are : ArePairs (or_empty (behind_mark 63 (behind_credentials text))) pairs
-  pub is : cut ≡ up_to_fault (credentials_in text ++ (address_in (before_mark 63 (behind_credentials text)) ++ pairs))
+  pub is : cut ≡ up_to_fault
+      (credentials_in text ++ (address_in (before_mark 63 (behind_credentials text)) ++ pairs))

@@ -12,6 +12,9 @@ with_pair cut key value = next_cut cut (pair_of (url_text key) (url_text value))
 -- behind these parts stand pairs, and with them the parts are those of the whole text
 pub data AddsPairs : Cut → List ℕ → Cut → Type 0 where
   ended : {cut : Cut} → AddsPairs cut [] cut
-  no_pair : {cut : Cut} {text : List ℕ} → 0 < length text → behind_mark 61 text ≡ None → AddsPairs cut text (next_cut cut (Err fault.Syntax))
+  no_pair : {cut : Cut} {text : List ℕ} → 0 < length text → behind_mark 61 text ≡ None
+      → AddsPairs cut text (next_cut cut (Err fault.Syntax))
   paired : {cut whole : Cut} {text written : List ℕ} → behind_mark 61 text ≡ Some written
-      → AddsPairs (with_pair cut (before_mark 61 text) (before_mark 38 written)) (or_empty (behind_mark 38 written)) whole → AddsPairs cut text whole
+      → AddsPairs (with_pair cut (before_mark 61 text) (before_mark 38 written))
+      (or_empty (behind_mark 38 written)) whole
+      → AddsPairs cut text whole

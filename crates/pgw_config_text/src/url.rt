@@ -37,7 +37,8 @@ fn read_text(alloc: Global, written: &[u8]) -> Result<Result<Text, Fault>, OutOf
 
 /// Adds a pair of this key and what the text stands for.
 fn add_value(alloc: Global, cut: Cut, key: &str, written: &[u8]) -> Result<Cut, OutOfMemory>
-    ensures { IfOk result (λ r. r ≡ next_cut cut (url_part (kind.Pair key.now) (url_text written.now))) }
+    ensures { IfOk result (λ r. r ≡ next_cut cut
+        (url_part (kind.Pair key.now) (url_text written.now))) }
 {
     let key = Text::from_str(alloc, key)?;
     match read_text(alloc, written)? {
@@ -173,7 +174,8 @@ fn pair(key: Result<Text, Fault>, value: Result<Text, Fault>) -> Result<Part, Fa
 }
 
 fn add_pair(alloc: Global, cut: Cut, key: &[u8], value: &[u8]) -> Result<Cut, OutOfMemory>
-    ensures { IfOk result (λ r. r ≡ next_cut cut (pair_of (url_text key.now) (url_text value.now))) }
+    ensures { IfOk result (λ r. r ≡ next_cut cut
+        (pair_of (url_text key.now) (url_text value.now))) }
 {
     let key = read_text(alloc, key)?;
     let value = read_text(alloc, value)?;

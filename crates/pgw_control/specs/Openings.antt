@@ -25,15 +25,20 @@ only_code code x why n = if n == code then Ok x else Err why
 
 -- four bytes that nobody looks at, and a code
 abbrev pub SpellsCoded : ℕ → List ℕ → Type 0
-SpellsCoded code bytes = (head : List ℕ) × (tail : List ℕ) × (bytes ≡ head ++ tail) × (length head ≡ 4) × SpellsNat w32 code tail
+SpellsCoded code bytes =
+    (head : List ℕ) × (tail : List ℕ) × (bytes ≡ head ++ tail) × (length head ≡ 4)
+    × SpellsNat w32 code tail
 
 -- ---- SSLRequest, GSSENCRequest
 
 unfoldable pub ssl_request_of : DecodeContext → List ℕ → Result SslRequest PgWireError
-ssl_request_of ctx bytes = all_of (tried_at (only_code 80877103 (record {}) InvalidSSLRequestMessage) (nat_at w32) bytes)
+ssl_request_of ctx bytes =
+    all_of (tried_at (only_code 80877103 (record {}) InvalidSSLRequestMessage) (nat_at w32) bytes)
 
 unfoldable pub gss_enc_request_of : DecodeContext → List ℕ → Result GssEncRequest PgWireError
-gss_enc_request_of ctx bytes = all_of (tried_at (only_code 80877104 (record {}) InvalidGssEncRequestMessage) (nat_at w32) bytes)
+gss_enc_request_of ctx bytes =
+    all_of (tried_at (only_code 80877104 (record {}) InvalidGssEncRequestMessage) (nat_at w32)
+    bytes)
 
 -- ---- CancelRequest
 
@@ -44,10 +49,14 @@ cancel_from p = record { pid = p.1.0; secret_key = p.1.1 }
 unfoldable pub cancel_request_of : DecodeContext → List ℕ → Result CancelRequest PgWireError
 cancel_request_of ctx bytes =
     if nat_lt (length bytes) 12 then Err InvalidCancelRequest
-    else all_of (made_at cancel_from (pair_at (tried_at (only_code 80877102 (record {}) InvalidCancelRequest) (nat_at w32)) (pair_at (int_at w32) (tried_at (key_of ctx.protocol_version) rest_at))) bytes)
+    else all_of (made_at cancel_from (pair_at (tried_at
+    (only_code 80877102 (record {}) InvalidCancelRequest) (nat_at w32))
+    (pair_at (int_at w32) (tried_at (key_of ctx.protocol_version) rest_at))) bytes)
 
 abbrev pub SpellsCancelRequest : ProtocolVersion → CancelRequest → List ℕ → Type 0
-SpellsCancelRequest version m bytes = (code : List ℕ) × (rest : List ℕ) × (bytes ≡ code ++ rest) × SpellsNat w32 80877102 code × Pair (SpellsInt w32) (SpellsKey version) (m.pid, m.secret_key) rest
+SpellsCancelRequest version m bytes =
+    (code : List ℕ) × (rest : List ℕ) × (bytes ≡ code ++ rest) × SpellsNat w32 80877102 code
+    × Pair (SpellsInt w32) (SpellsKey version) (m.pid, m.secret_key) rest
 
 abbrev pub cancel_request : CancelRequest → List ℕ
 cancel_request m = u32 80877102 ++ i32 m.pid ++ key_bytes m.secret_key

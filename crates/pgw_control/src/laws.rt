@@ -37,7 +37,8 @@ pub fn what_is_spelled_is_read()
         wire_front Code 10000 (gss_enc_request_of ctx) (g ++ rest) ≡ Ok (Some (m, rest)) }
     ensures cancel { (ctx : TheContext) (m : TheCancel) (g rest : List ℕ) →
         SpellsUntyped 10000 (SpellsCancelRequest ctx.protocol_version) m g →
-        wire_front (Opening 80877102) 10000 (cancel_request_of ctx) (g ++ rest) ≡ Ok (Some (m, rest)) }
+        wire_front (Opening 80877102) 10000 (cancel_request_of ctx) (g ++ rest) ≡ Ok
+        (Some (m, rest)) }
 {}
 
 /// What is written spells the message.

@@ -13,32 +13,45 @@ use Rattle.pgw_copy.proofs.ColumnLaws.{columns_reads}
 
 pub copy_data : (ctx : DecodeContext) → IsRow 100 1073741822 (copy_data_of ctx) SpellsCopyData
 unfolding copy_data_of
-copy_data ctx = is_row 100 1073741822 (lit< tt) _ SpellsCopyData (made_last (λ b. record { payload = b }) (λ m. m.payload) rest_at IsRest (λ x. refl) (λ y. refl) rest_reads)
+copy_data ctx =
+    is_row 100 1073741822 (lit< tt) _ SpellsCopyData
+    (made_last (λ b. record { payload = b }) (λ m. m.payload) rest_at IsRest (λ x. refl) (λ y. refl)
+    rest_reads)
 
 pub copy_done : (ctx : DecodeContext) → IsRow 99 10000 (copy_done_of ctx) SpellsCopyDone
 unfolding copy_done_of
 copy_done ctx = is_row 99 10000 (lit< tt) (λ bytes. Ok (record {}, bytes)) SpellsCopyDone (record {
   found = λ bytes m rest short e.
       let made : CopyDone × List ℕ = (record {}, bytes) in
-      subst (λ (y : CopyDone × List ℕ). (f : List ℕ) × (bytes ≡ f ++ y.1) × SpellsCopyDone y.0 f) (ok_is made (m, rest) e) ([], refl, refl);
+      subst (λ (y : CopyDone × List ℕ). (f : List ℕ) × (bytes ≡ f ++ y.1) × SpellsCopyDone y.0 f)
+      (ok_is made (m, rest) e) ([], refl, refl);
   only = λ m front h. rw h refl;
 })
 
 pub copy_fail : (ctx : DecodeContext) → IsRow 102 10000 (copy_fail_of ctx) SpellsCopyFail
 unfolding copy_fail_of
-copy_fail ctx = is_row 102 10000 (lit< tt) _ SpellsCopyFail (made_last (λ t. record { message = t }) (λ m. m.message) text_at SpellsText (λ x. refl) (λ y. refl) (reads_last text_at SpellsText text_reads))
+copy_fail ctx =
+    is_row 102 10000 (lit< tt) _ SpellsCopyFail
+    (made_last (λ t. record { message = t }) (λ m. m.message) text_at SpellsText (λ x. refl) (λ y. refl)
+    (reads_last text_at SpellsText text_reads))
 
 pub copy_in_response : (ctx : DecodeContext) → IsRow 71 30000 (copy_in_response_of ctx) SpellsCopyInResponse
 unfolding copy_in_response_of
 copy_in_response ctx = is_row 71 30000 (lit< tt) _ SpellsCopyInResponse
-    (made_last (λ p. record { format = p.0; columns = p.1; column_formats = p.2 }) (λ m. (m.format, m.columns, m.column_formats)) columns_at SpellsColumns (λ x. refl) (λ y. refl) (reads_last columns_at SpellsColumns columns_reads))
+    (made_last (λ p. record { format = p.0; columns = p.1; column_formats = p.2 })
+    (λ m. (m.format, m.columns, m.column_formats)) columns_at SpellsColumns (λ x. refl) (λ y. refl)
+    (reads_last columns_at SpellsColumns columns_reads))
 
 pub copy_out_response : (ctx : DecodeContext) → IsRow 72 30000 (copy_out_response_of ctx) SpellsCopyOutResponse
 unfolding copy_out_response_of
 copy_out_response ctx = is_row 72 30000 (lit< tt) _ SpellsCopyOutResponse
-    (made_last (λ p. record { format = p.0; columns = p.1; column_formats = p.2 }) (λ m. (m.format, m.columns, m.column_formats)) columns_at SpellsColumns (λ x. refl) (λ y. refl) (reads_last columns_at SpellsColumns columns_reads))
+    (made_last (λ p. record { format = p.0; columns = p.1; column_formats = p.2 })
+    (λ m. (m.format, m.columns, m.column_formats)) columns_at SpellsColumns (λ x. refl) (λ y. refl)
+    (reads_last columns_at SpellsColumns columns_reads))
 
 pub copy_both_response : (ctx : DecodeContext) → IsRow 87 30000 (copy_both_response_of ctx) SpellsCopyBothResponse
 unfolding copy_both_response_of
 copy_both_response ctx = is_row 87 30000 (lit< tt) _ SpellsCopyBothResponse
-    (made_last (λ p. record { format = p.0; columns = p.1; column_formats = p.2 }) (λ m. (m.format, m.columns, m.column_formats)) columns_at SpellsColumns (λ x. refl) (λ y. refl) (reads_last columns_at SpellsColumns columns_reads))
+    (made_last (λ p. record { format = p.0; columns = p.1; column_formats = p.2 })
+    (λ m. (m.format, m.columns, m.column_formats)) columns_at SpellsColumns (λ x. refl) (λ y. refl)
+    (reads_last columns_at SpellsColumns columns_reads))

@@ -28,16 +28,35 @@ code_written z fits = int_written w16 wide16 z fits
 
 codes_written : (zs : List ℤ) → AllByRecursion IsCode zs → SpellsMany (SpellsInt w16) zs (flat_map i16 zs)
 codes_written [] sound = refl
-codes_written (z ∷ zs) sound = (i16 z, flat_map i16 zs, flat_map-cons i16 z zs, code_written z sound.0, codes_written zs sound.1)
+codes_written (z ∷ zs) sound =
+    (i16 z, flat_map i16 zs, flat_map-cons i16 z zs, code_written z sound.0, codes_written zs sound.1)
 
 same_count : (columns : ℤ) (codes : List ℤ) → is_miscounted columns codes ≡ false → columns ≡ pos (length codes)
-same_count columns codes fine = (Decides-int_eq columns (pos (length codes))).0 (negated (int_eq columns (pos (length codes))) fine)
+same_count columns codes fine =
+    (Decides-int_eq columns (pos (length codes))).0 (negated (int_eq columns (pos (length codes))) fine)
   where
     negated : (b : Bool) → not b ≡ false → b ≡ true
     negated true h = refl
     negated false h = absurd cc
 
-pub columns_written : (format columns : ℤ) (codes : List ℤ) → AreColumns format columns codes → refused_if (is_miscounted columns codes) ≡ None → SpellsColumns (format, columns, codes) (formats format columns codes)
+pub columns_written : (format columns : ℤ) (codes : List ℤ) → AreColumns format columns codes
+    → refused_if (is_miscounted columns codes) ≡ None
+    → SpellsColumns (format, columns, codes) (formats format columns codes)
 columns_written format columns codes sound fine =
-    let same = same_count columns codes (unrefused _ fine) in
-    (same, (cast_unsigned w8 format ∷ [], i16 columns ++ flat_map i16 codes, refl, format_written format sound.0, (i16 columns, flat_map i16 codes, refl, subst (λ (z : ℤ). SpellsInt w16 z (i16 columns)) same (code_written columns sound.1), codes_written codes sound.2)))
+    let same = same_count columns codes (unrefused _ fine) in (
+      same,
+      (
+        cast_unsigned w8 format ∷ [],
+        i16 columns ++ flat_map i16 codes,
+        refl,
+        format_written format sound.0,
+        (
+          i16 columns,
+          flat_map i16 codes,
+          refl,
+          subst (λ (z : ℤ). SpellsInt w16 z (i16 columns)) same
+              (code_written columns sound.1),
+          codes_written codes sound.2,
+        ),
+      ),
+    )

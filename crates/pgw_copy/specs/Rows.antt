@@ -48,7 +48,9 @@ columns_at bytes = do
 
 -- the columns are as many as their formats
 abbrev pub SpellsColumns : ℤ × ℤ × List ℤ → List ℕ → Type 0
-SpellsColumns p bytes = (p.1 ≡ pos (length p.2)) × Pair (SpellsInt w8) (SpellsCounted w16 (SpellsInt w16)) (p.0, p.2) bytes
+SpellsColumns p bytes =
+    (p.1 ≡ pos (length p.2))
+    × Pair (SpellsInt w8) (SpellsCounted w16 (SpellsInt w16)) (p.0, p.2) bytes
 
 -- the same, as they are written
 abbrev pub formats : ℤ → ℤ → List ℤ → List ℕ
@@ -59,19 +61,26 @@ abbrev pub is_miscounted : ℤ → List ℤ → Bool
 is_miscounted columns codes = not (int_eq columns (pos (length codes)))
 
 unfoldable pub copy_in_response_of : DecodeContext → List ℕ → Result CopyInResponse PgWireError
-copy_in_response_of ctx bytes = all_of (made_at (λ p. record { format = p.0; columns = p.1; column_formats = p.2 }) columns_at bytes)
+copy_in_response_of ctx bytes =
+    all_of (made_at (λ p. record { format = p.0; columns = p.1; column_formats = p.2 }) columns_at
+    bytes)
 
 abbrev pub SpellsCopyInResponse : CopyInResponse → List ℕ → Type 0
 SpellsCopyInResponse m = SpellsColumns (m.format, m.columns, m.column_formats)
 
 unfoldable pub copy_out_response_of : DecodeContext → List ℕ → Result CopyOutResponse PgWireError
-copy_out_response_of ctx bytes = all_of (made_at (λ p. record { format = p.0; columns = p.1; column_formats = p.2 }) columns_at bytes)
+copy_out_response_of ctx bytes =
+    all_of (made_at (λ p. record { format = p.0; columns = p.1; column_formats = p.2 }) columns_at
+    bytes)
 
 abbrev pub SpellsCopyOutResponse : CopyOutResponse → List ℕ → Type 0
 SpellsCopyOutResponse m = SpellsColumns (m.format, m.columns, m.column_formats)
 
-unfoldable pub copy_both_response_of : DecodeContext → List ℕ → Result CopyBothResponse PgWireError
-copy_both_response_of ctx bytes = all_of (made_at (λ p. record { format = p.0; columns = p.1; column_formats = p.2 }) columns_at bytes)
+unfoldable pub copy_both_response_of : DecodeContext → List ℕ
+    → Result CopyBothResponse PgWireError
+copy_both_response_of ctx bytes =
+    all_of (made_at (λ p. record { format = p.0; columns = p.1; column_formats = p.2 }) columns_at
+    bytes)
 
 abbrev pub SpellsCopyBothResponse : CopyBothResponse → List ℕ → Type 0
 SpellsCopyBothResponse m = SpellsColumns (m.format, m.columns, m.column_formats)

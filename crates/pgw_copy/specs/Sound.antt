@@ -10,4 +10,5 @@ IsCopyFail m = IsUtf8 m.message
 
 -- the format of all, the number of columns, and the format of each
 abbrev pub AreColumns : ℤ → ℤ → List ℤ → Type 0
-AreColumns format columns codes = FitsSigned w8 format × FitsSigned w16 columns × AllByRecursion IsCode codes
+AreColumns format columns codes =
+    FitsSigned w8 format × FitsSigned w16 columns × AllByRecursion IsCode codes

@@ -7,7 +7,8 @@ use Rattle.pgw_dialogue.specs.Demands.{ChecksDemand, IsInvalidConfig}
 use Rattle.pgw_dialogue.specs.Wire.{IsNoDemand}
 
 -- which key a refusal names
-pub refused_key : (o : Option (List ℕ)) (e : ClientError) → ChecksDemand o (Err e) → (key : List ℕ) × (o ≡ Some key) × IsInvalidConfig key e
+pub refused_key : (o : Option (List ℕ)) (e : ClientError) → ChecksDemand o (Err e)
+    → (key : List ℕ) × (o ≡ Some key) × IsInvalidConfig key e
 refused_key None e c = absurd c
 refused_key (Some key) e c = (key, refl, c)
 
@@ -15,12 +16,14 @@ pub none_refused : (o : Option (List ℕ)) (done : Unit {0}) → ChecksDemand o 
 none_refused None done c = refl
 none_refused (Some key) done c = absurd c
 
-pub same_key : (o : Option (List ℕ)) (e : ClientError) (named key : List ℕ) → o ≡ Some named → IsInvalidConfig named e → e ≡ client.InvalidConfig key → o ≡ Some key
+pub same_key : (o : Option (List ℕ)) (e : ClientError) (named key : List ℕ) → o ≡ Some named
+    → IsInvalidConfig named e → e ≡ client.InvalidConfig key → o ≡ Some key
 same_key o e named key is (inl a) b = cc
 same_key o e named key is (inr a) b = cc
 
 -- any other error names the user name's key, if it names one
-pub only_user : {T : Type 0} (r : Result T ClientError) (key : List ℕ) → IfErr r IsNoDemand → r ≡ Err (client.InvalidConfig key) → key ≡ codes "user"
+pub only_user : {T : Type 0} (r : Result T ClientError) (key : List ℕ) → IfErr r IsNoDemand
+    → r ≡ Err (client.InvalidConfig key) → key ≡ codes "user"
 only_user (Ok value) key other is = cc
 only_user (Err (client.InvalidConfig k)) key other is = let same : k ≡ key = cc in sym same ∙ other
 only_user (Err e) key other is = cc

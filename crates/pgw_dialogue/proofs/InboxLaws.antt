@@ -14,24 +14,35 @@ use Rattle.pgw_backend.specs.declared.client_error.PgWireClientError.{PgWireClie
 use Rattle.pgw_backend.proofs.FrontLaws.{front_whole, front_whole_more, front_bad_more}
 use Rattle.pgw_dialogue.specs.Wire.{Decoded}
 
-pub found_more : (v : ProtocolVersion) (front rest more : List ℕ) (m : Backend) → Decoded v front rest (Ok (Some m)) → Decoded v (front ++ more) (rest ++ more) (Ok (Some m))
+pub found_more : (v : ProtocolVersion) (front rest more : List ℕ) (m : Backend)
+    → Decoded v front rest (Ok (Some m)) → Decoded v (front ++ more) (rest ++ more) (Ok (Some m))
 found_more v front rest more m d =
-    let len = d.0 in
-    (len, front_whole_more v front more m len d.1, ap (λ (r : List ℕ). r ++ more) d.2 ∙ sym (drop-append-le len front more (front_whole v front m len d.1).1))
+    let len = d.0 in (
+      len,
+      front_whole_more v front more m len d.1,
+      ap (λ (r : List ℕ). r ++ more) d.2
+          ∙ sym (drop-append-le len front more (front_whole v front m len d.1).1),
+    )
 
-pub refused_more : (v : ProtocolVersion) (front rest more : List ℕ) (e : ClientError) → Decoded v front rest (Err e) → Decoded v (front ++ more) (rest ++ more) (Err e)
+pub refused_more : (v : ProtocolVersion) (front rest more : List ℕ) (e : ClientError)
+    → Decoded v front rest (Err e) → Decoded v (front ++ more) (rest ++ more) (Err e)
 refused_more v front rest more e d = (
   ap (λ (r : List ℕ). r ++ more) d.0,
   λ ne. let why = d.1 ne in (why.0, front_bad_more v front more why.0 why.1, why.2),
 )
 
-pub decoded_of : (v : ProtocolVersion) (old new other_old other_new : List ℕ) (r : Result (Option Backend) ClientError) → old ≡ other_old → new ≡ other_new → Decoded v old new r → Decoded v other_old other_new r
-decoded_of v old new other_old other_new r was is d = subst (λ (o : List ℕ). Decoded v o other_new r) was (subst (λ (n : List ℕ). Decoded v old n r) is d)
+pub decoded_of : (v : ProtocolVersion) (old new other_old other_new : List ℕ)
+    (r : Result (Option Backend) ClientError)
+    → old ≡ other_old → new ≡ other_new → Decoded v old new r → Decoded v other_old other_new r
+decoded_of v old new other_old other_new r was is d =
+    subst (λ (o : List ℕ). Decoded v o other_new r) was (subst (λ (n : List ℕ). Decoded v old n r) is d)
 
 -- nothing is whole at a front, and nothing stands behind it
-pub none_alone : (v : ProtocolVersion) (front rest more : List ℕ) → length more ≡ 0 → Decoded v front rest (Ok None) → Decoded v (front ++ more) (rest ++ more) (Ok None)
+pub none_alone : (v : ProtocolVersion) (front rest more : List ℕ) → length more ≡ 0
+    → Decoded v front rest (Ok None) → Decoded v (front ++ more) (rest ++ more) (Ok None)
 none_alone v front rest [] none d =
-    decoded_of v front rest (front ++ []) (rest ++ []) (Ok None) (sym (append-nil front)) (sym (append-nil rest)) d
+    decoded_of v front rest (front ++ []) (rest ++ []) (Ok None) (sym (append-nil front)) (sym (append-nil rest))
+    d
 none_alone v front rest (b ∷ more) none d = absurd (cc)
 
 -- ---- rows

@@ -42,7 +42,8 @@ abbrev AreOwn : Option ClientError → Type 0
 AreOwn None = Unit {0}
 AreOwn (Some e) = IsOwn e
 
-first_own : (b : Bool) (e : ClientError) (rest : Option ClientError) → IsOwn e → AreOwn rest → AreOwn (first_of (unless_so b e) rest)
+first_own : (b : Bool) (e : ClientError) (rest : Option ClientError) → IsOwn e → AreOwn rest
+    → AreOwn (first_of (unless_so b e) rest)
 first_own true e rest own more = more
 first_own false e rest own more = own
 
@@ -54,18 +55,23 @@ unless_own : (b : Bool) (e : ScramClientError) → IsOwn (of_scram e) → AreScr
 unless_own true e own = tt
 unless_own false e own = own
 
-two_own : (a b : Bool) (e f : ScramClientError) → IsOwn (of_scram e) → IsOwn (of_scram f) → AreScram (first_of (unless_so a e) (unless_so b f))
+two_own : (a b : Bool) (e f : ScramClientError) → IsOwn (of_scram e) → IsOwn (of_scram f)
+    → AreScram (first_of (unless_so a e) (unless_so b f))
 two_own true b e f x y = unless_own b f y
 two_own false b e f x y = x
 
 parts_own : (nonce : List ℕ) (parts : Result ServerFirst ScramMessageFault) → AreScram (parts_refusal nonce parts)
 parts_own nonce (Err why) = tt
-parts_own nonce (Ok parts) = two_own (begins_with parts.nonce nonce) (is_some (salt_of parts.salt)) (scram.ScramError scram_fault.NonceMismatch) (scram.ScramError scram_fault.SaltNotBase64) tt tt
+parts_own nonce (Ok parts) =
+    two_own (begins_with parts.nonce nonce) (is_some (salt_of parts.salt))
+    (scram.ScramError scram_fault.NonceMismatch) (scram.ScramError scram_fault.SaltNotBase64) tt tt
 
-final_own : (expected : List ℕ) (final : Result ServerFinal ScramMessageFault) → AreScram (verifier_refusal expected final)
+final_own : (expected : List ℕ) (final : Result ServerFinal ScramMessageFault)
+    → AreScram (verifier_refusal expected final)
 final_own expected (Err why) = tt
 final_own expected (Ok (Failed text)) = tt
-final_own expected (Ok (Signature text)) = unless_own (bytes_eq text expected) (scram.ScramError scram_fault.SignatureMismatch) tt
+final_own expected (Ok (Signature text)) =
+    unless_own (bytes_eq text expected) (scram.ScramError scram_fault.SignatureMismatch) tt
 
 unless_good : (o : Option ClientError) (n : Next) → AreOwn o → IsGood n → IsGood (next_unless o n)
 unless_good None n own good = good
@@ -74,9 +80,11 @@ unless_good (Some e) n own good = own
 methods_own : (input : Input) (methods : List (List ℕ)) → AreOwn (methods_refusal input methods)
 methods_own input methods =
     let form = option_map of_scram (user_refusal (saslprep (user_of input))) in
-    let password = first_of (unless_so (is_utf8 (password_of input)) (client.ScramError scram_fault.PasswordNotUtf8)) form in
+    let password =
+    first_of (unless_so (is_utf8 (password_of input)) (client.ScramError scram_fault.PasswordNotUtf8)) form in
     first_own (takes_method input methods) (client.UnsupportedSASLAuthMethods methods) password tt
-    (first_own (is_utf8 (password_of input)) (client.ScramError scram_fault.PasswordNotUtf8) form tt (unless_own (is_some (saslprep (user_of input))) (scram.InvalidConfig (codes "user")) refl))
+    (first_own (is_utf8 (password_of input)) (client.ScramError scram_fault.PasswordNotUtf8) form tt
+    (unless_own (is_some (saslprep (user_of input))) (scram.InvalidConfig (codes "user")) refl))
 
 news_good : (b : Bool) (s : Stage) (n : Next) → IsGood n → IsGood (news_or b s n)
 news_good true s n good = tt
@@ -92,22 +100,31 @@ unbound_good true n good = tt
 unbound_good false n good = good
 
 login_good : (input : Input) (m : Backend) → IsGood (by_login input m)
-login_good input (backend.Authentication authentication.CleartextPassword) = unbound_good (must_bind input) (Goes Admitted (Some (cleartext_message input))) tt
-login_good input (backend.Authentication (authentication.MD5Password salt)) = unbound_good (must_bind input) (Goes Admitted (Some (md5_message input salt))) tt
+login_good input (backend.Authentication authentication.CleartextPassword) =
+    unbound_good (must_bind input) (Goes Admitted (Some (cleartext_message input))) tt
+login_good input (backend.Authentication (authentication.MD5Password salt)) =
+    unbound_good (must_bind input) (Goes Admitted (Some (md5_message input salt))) tt
 login_good input (backend.ReadyForQuery ready) = unbound_good (must_bind input) Closes tt
 login_good input (backend.Authentication (authentication.SASL methods)) =
-    unless_good (methods_refusal input methods) (Goes (Challenged (scram_login input methods)) (Some (first_message (scram_login input methods)))) (methods_own input methods) tt
+    unless_good (methods_refusal input methods)
+    (Goes (Challenged (scram_login input methods)) (Some (first_message (scram_login input methods))))
+    (methods_own input methods) tt
 login_good input (backend.Authentication authentication.Ok) = tt
 login_good input m = welcome_good m
 
 first_good : (login : ClientLogin) (m : Backend) → IsGood (by_first login m)
-first_good login (backend.Authentication (authentication.SASLContinue first)) = unless_good (first_refusal login first) (Goes (Proving (expected_of login first)) (Some (final_message login first))) (parts_own login.nonce (read_server_first first)) tt
+first_good login (backend.Authentication (authentication.SASLContinue first)) =
+    unless_good (first_refusal login first)
+    (Goes (Proving (expected_of login first)) (Some (final_message login first)))
+    (parts_own login.nonce (read_server_first first)) tt
 first_good login (backend.Authentication authentication.Ok) = tt
 first_good login (backend.ErrorResponse e) = tt
 first_good login m = tt
 
 final_good : (expected : List ℕ) (m : Backend) → IsGood (by_final expected m)
-final_good expected (backend.Authentication (authentication.SASLFinal final)) = unless_good (final_refusal expected final) (Goes Admitted None) (final_own expected (read_server_final final)) tt
+final_good expected (backend.Authentication (authentication.SASLFinal final)) =
+    unless_good (final_refusal expected final) (Goes Admitted None) (final_own expected (read_server_final final))
+    tt
 final_good expected (backend.Authentication authentication.Ok) = tt
 final_good expected (backend.ErrorResponse e) = tt
 final_good expected m = tt
@@ -130,7 +147,8 @@ ready_good true = tt
 ready_good false = tt
 
 pub after_good : (input : Input) (s : Stage) (m : Backend) → IsGood (next_after input s m)
-after_good input Starting m = news_good (is_early (must_bind input) m) Starting (by_login input m) (login_good input m)
+after_good input Starting m =
+    news_good (is_early (must_bind input) m) Starting (by_login input m) (login_good input m)
 after_good input (Challenged login) m = first_good login m
 after_good input (Proving expected) m = final_good expected m
 after_good input Admitted m = news_good (is_news m) Admitted (by_welcome m) (welcome_good m)

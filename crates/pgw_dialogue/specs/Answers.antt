@@ -40,7 +40,8 @@ answer_at room (Over ending sent) = ending_answer (error_of ending.outcome)
 
 -- the answer of a call behind which these bytes have been given, where no earlier one was refused
 abbrev pub answer_to : Input → ℕ → List ℕ → Result DialoguePhase ClientError
-answer_to input limit given = answer_at (limit - length given) (conversation input (taken_of limit given))
+answer_to input limit given =
+    answer_at (limit - length given) (conversation input (taken_of limit given))
 
 -- what is answered behind some bytes; the proofs carry it
 abbrev pub answer_behind : Result Bool ClientError → ℕ → ℕ → Result DialoguePhase ClientError
@@ -49,7 +50,8 @@ answer_behind (Ok false) room closed = waiting_answer room closed
 answer_behind (Err e) room closed = Err e
 
 -- this is answered, or memory is wanting
-abbrev pub IsOrLacks : Result DialoguePhase ClientError → Result DialoguePhase ClientError → Type 0
+abbrev pub IsOrLacks : Result DialoguePhase ClientError → Result DialoguePhase ClientError
+    → Type 0
 IsOrLacks answer result = (result ≡ answer) ⊎ (result ≡ Err client.OutOfMemory)
 
 -- what a dialogue does with bytes behind an answer
@@ -65,21 +67,35 @@ state_behind (Err e) = state.Refused
 -- the bytes taken end within a message of the startup segment, or of a segment behind it, and complete no transcript;
 -- or they complete one
 abbrev pub TellsPhase : Input → List ℕ → List ℕ → DialoguePhase → Type 0
-TellsPhase input taken put phase.Waiting = (part : List Event) × (passed : List Backend) × WaitsAt input taken put [] part passed × IsUnfinished input taken
-TellsPhase input taken put phase.Ready = (first : List Event) × (closed : List (List Event)) × (part : List Event) × (passed : List Backend) × WaitsAt input taken put (first ∷ closed) part passed × IsUnfinished input taken
-TellsPhase input taken put phase.Done = (report : SessionReport) × Completed input taken put report
+TellsPhase input taken put phase.Waiting =
+    (part : List Event) × (passed : List Backend) × WaitsAt input taken put [] part passed
+    × IsUnfinished input taken
+TellsPhase input taken put phase.Ready =
+    (first : List Event) × (closed : List (List Event)) × (part : List Event)
+    × (passed : List Backend) × WaitsAt input taken put (first ∷ closed) part passed
+    × IsUnfinished input taken
+TellsPhase input taken put phase.Done =
+    (report : SessionReport) × Completed input taken put report
 
 -- The cause of each error, where these bytes were given and those put out. No other error comes.
 abbrev pub TakeCause : Input → ℕ → List ℕ → List ℕ → ClientError → Type 0
 TakeCause input limit given put client.OutOfMemory = Unit {0}
-TakeCause input limit given put client.ReadLimit = WaitsStill input (taken_of limit given) put × (limit ≤ length given)
+TakeCause input limit given put client.ReadLimit =
+    WaitsStill input (taken_of limit given) put × (limit ≤ length given)
 TakeCause input limit given put (client.PgWireError why) =
-    ((Unreadable input (taken_of limit given) put why ⊎ Unsendable input (taken_of limit given) put why) × IsHopeless input (taken_of limit given)) ⊎ IsRefused input (taken_of limit given) put (client.PgWireError why)
-TakeCause input limit given put (client.UnexpectedMessage m) = HasNoPlace input ⊥ (taken_of limit given) put m × IsHopeless input (taken_of limit given)
-TakeCause input limit given put (client.RemoteError e) = IsRefused input (taken_of limit given) put (client.RemoteError e)
-TakeCause input limit given put (client.ScramError fault) = IsRefused input (taken_of limit given) put (client.ScramError fault)
-TakeCause input limit given put (client.UnsupportedSASLAuthMethods methods) = IsRefused input (taken_of limit given) put (client.UnsupportedSASLAuthMethods methods)
-TakeCause input limit given put (client.InvalidConfig key) = IsRefused input (taken_of limit given) put (client.InvalidConfig key)
+    ((Unreadable input (taken_of limit given) put why ⊎ Unsendable input (taken_of limit given)
+    put why) × IsHopeless input (taken_of limit given))
+    ⊎ IsRefused input (taken_of limit given) put (client.PgWireError why)
+TakeCause input limit given put (client.UnexpectedMessage m) =
+    HasNoPlace input ⊥ (taken_of limit given) put m × IsHopeless input (taken_of limit given)
+TakeCause input limit given put (client.RemoteError e) =
+    IsRefused input (taken_of limit given) put (client.RemoteError e)
+TakeCause input limit given put (client.ScramError fault) =
+    IsRefused input (taken_of limit given) put (client.ScramError fault)
+TakeCause input limit given put (client.UnsupportedSASLAuthMethods methods) =
+    IsRefused input (taken_of limit given) put (client.UnsupportedSASLAuthMethods methods)
+TakeCause input limit given put (client.InvalidConfig key) =
+    IsRefused input (taken_of limit given) put (client.InvalidConfig key)
 TakeCause input limit given put e = ⊥
 
 abbrev pub Tells : Input → ℕ → List ℕ → List ℕ → Result DialoguePhase ClientError → Type 0

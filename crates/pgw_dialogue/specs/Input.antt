@@ -3,4 +3,10 @@ use Rattle.pgw_session.specs.Input.{Input}
 use Rattle.pgw_dialogue.specs.declared.input.Input.{Input as Given}
 
 abbrev pub input_of : Given → Input
-input_of given = record { config = (given.config).now; requests = (given.requests).now; nonce = (given.nonce).now }
+input_of given =
+    record {
+      config = (given.config).now;
+      requests = (given.requests).now;
+      nonce =
+          (given.nonce).now;
+    }

@@ -60,42 +60,64 @@ IsGood n = Unit {0}
 -- The end of a whole session behind which these are the notes. Its last segment counts as closed; the notes count one
 -- once the next is opened.
 abbrev pub whole_end : Notes → End Notes
-whole_end notes = record { notes = record notes { closed = suc notes.closed }; outcome = Complete }
+whole_end notes =
+    record { notes = record notes { closed = suc notes.closed }; outcome = Complete }
 
 -- what taking a message answers
 abbrev pub AnswersMove : NotesMove → Notes → List ℕ → List ℕ → Result Bool ClientError → Type 0
-AnswersMove move new old_out new_out (Ok true) = (move ≡ Ends (whole_end new) []) × (new_out ≡ old_out)
-AnswersMove move new old_out new_out (Ok false) = (bytes : List ℕ) × (move ≡ On new bytes) × (new_out ≡ old_out ++ bytes)
+AnswersMove move new old_out new_out (Ok true) =
+    (move ≡ Ends (whole_end new) []) × (new_out ≡ old_out)
+AnswersMove move new old_out new_out (Ok false) =
+    (bytes : List ℕ) × (move ≡ On new bytes) × (new_out ≡ old_out ++ bytes)
 AnswersMove move new old_out new_out (Err e) = (new_out ≡ old_out) × Unless e (StopsBy move e)
 
 -- what passing a message over answers
 abbrev pub DialoguePasses : Notes → Notes → Backend → Backend → Result Bool ClientError → Type 0
-DialoguePasses old new first m (Ok over) = (over ≡ false) × (is_ready m ≡ false) × (new ≡ record old { standing = standing_by old.standing m; first_passed = Some first })
-DialoguePasses old new first m (Err e) = Unless e ((is_ready m ≡ true) × (e ≡ client.UnexpectedMessage first))
+DialoguePasses old new first m (Ok over) =
+    (over ≡ false) × (is_ready m ≡ false)
+    × (new ≡ record old { standing = standing_by old.standing m; first_passed = Some first })
+DialoguePasses old new first m (Err e) =
+    Unless e ((is_ready m ≡ true) × (e ≡ client.UnexpectedMessage first))
 
 -- what putting the startup message out answers, behind what was written before
 abbrev pub StartsRun : Input → List ℕ → Result Notes ClientError → Type 0
-StartsRun input out (Ok notes) = beginning_by notes_book input (first_notes input) ≡ Waits notes out []
-StartsRun input out (Err e) = (out ≡ []) × Unless e ((end : End Notes) × (beginning_by notes_book input (first_notes input) ≡ Over end []) × (error_of end.outcome ≡ Some e))
+StartsRun input out (Ok notes) =
+    beginning_by notes_book input (first_notes input) ≡ Waits notes out []
+StartsRun input out (Err e) =
+    (out ≡ [])
+    × Unless e ((end : End Notes) ×
+    (beginning_by notes_book input (first_notes input) ≡ Over end [])
+    × (error_of end.outcome ≡ Some e))
 
 -- what taking the message at the front of the buffer does to the whole run
-abbrev pub AdvancesRun : Input → Notes → Notes → List ℕ → List ℕ → List ℕ → List ℕ → Result Progress ClientError → Type 0
+abbrev pub AdvancesRun : Input → Notes → Notes → List ℕ → List ℕ → List ℕ → List ℕ
+    → Result Progress ClientError → Type 0
 AdvancesRun input old new old_buffer new_buffer old_out new_out (Ok progress.More) =
-    (new ≡ old) × (new_out ≡ old_out) × (new_buffer ≡ old_buffer) × (front old.standing.version old_buffer ≡ More)
+    (new ≡ old) × (new_out ≡ old_out) × (new_buffer ≡ old_buffer)
+    × (front old.standing.version old_buffer ≡ More)
 AdvancesRun input old new old_buffer new_buffer old_out new_out (Ok progress.Went) =
-    (out : List ℕ) × (new_out ≡ old_out ++ out) × ((sent : List ℕ) → runs input old sent old_buffer ≡ runs input new (sent ++ out) new_buffer)
+    (out : List ℕ) × (new_out ≡ old_out ++ out)
+    × ((sent : List ℕ) → runs input old sent old_buffer ≡ runs input new (sent ++ out)
+    new_buffer)
 AdvancesRun input old new old_buffer new_buffer old_out new_out (Ok progress.Done) =
-    (end : End Notes) × IsWholeEnd end (report_at new) × (new_out ≡ old_out) × ((sent : List ℕ) → runs input old sent old_buffer ≡ Over end sent)
+    (end : End Notes) × IsWholeEnd end (report_at new) × (new_out ≡ old_out)
+    × ((sent : List ℕ) → runs input old sent old_buffer ≡ Over end sent)
 AdvancesRun input old new old_buffer new_buffer old_out new_out (Err e) =
-    (new_out ≡ old_out) × Unless e ((end : End Notes) × (error_of end.outcome ≡ Some e) × ((sent : List ℕ) → runs input old sent old_buffer ≡ Over end sent))
+    (new_out ≡ old_out)
+    × Unless e ((end : End Notes) × (error_of end.outcome ≡ Some e) ×
+    ((sent : List ℕ) → runs input old sent old_buffer ≡ Over end sent))
 
 -- What was taken is the front of the buffer. Where the session goes on, it alone leads there; where the session is whole,
 -- it is the message that ended it.
-abbrev pub CutsFront : Input → Notes → Notes → List ℕ → List ℕ → List ℕ → List ℕ → Result Progress ClientError → Type 0
+abbrev pub CutsFront : Input → Notes → Notes → List ℕ → List ℕ → List ℕ → List ℕ
+    → Result Progress ClientError → Type 0
 CutsFront input old new old_buffer new_buffer old_out new_out (Ok progress.Went) =
-    (taken out : List ℕ) × (old_buffer ≡ taken ++ new_buffer) × (new_out ≡ old_out ++ out) × ((sent : List ℕ) → runs input old sent taken ≡ Waits new (sent ++ out) [])
+    (taken out : List ℕ) × (old_buffer ≡ taken ++ new_buffer) × (new_out ≡ old_out ++ out)
+    × ((sent : List ℕ) → runs input old sent taken ≡ Waits new (sent ++ out) [])
 CutsFront input old new old_buffer new_buffer old_out new_out (Ok progress.Done) =
-    (m : Backend) × (len : ℕ) × (front old.standing.version old_buffer ≡ Whole m len) × (new_buffer ≡ drop len old_buffer) × (turn_by notes_book input old m old.first_passed ≡ Ends (whole_end new) [])
+    (m : Backend) × (len : ℕ) × (front old.standing.version old_buffer ≡ Whole m len)
+    × (new_buffer ≡ drop len old_buffer)
+    × (turn_by notes_book input old m old.first_passed ≡ Ends (whole_end new) [])
 CutsFront input old new old_buffer new_buffer old_out new_out result = Unit {0}
 
 -- a message that was taken is gone from the buffer

@@ -38,12 +38,20 @@ IsEndError e = ⊥
 -- ---- messages
 
 -- what stood at the front, and what is left behind it
-abbrev pub Decoded : ProtocolVersion → List ℕ → List ℕ → Result (Option Backend) ClientError → Type 0
+abbrev pub Decoded : ProtocolVersion → List ℕ → List ℕ → Result (Option Backend) ClientError
+    → Type 0
 Decoded version old new (Ok None) = (new ≡ old) × (front version old ≡ More)
-Decoded version old new (Ok (Some m)) = (len : ℕ) × (front version old ≡ Whole m len) × (new ≡ drop len old)
-Decoded version old new (Err e) = (new ≡ old) × Unless e ((why : PgWireError) × (front version old ≡ Bad why) × (e ≡ client.PgWireError why))
+Decoded version old new (Ok (Some m)) =
+    (len : ℕ) × (front version old ≡ Whole m len) × (new ≡ drop len old)
+Decoded version old new (Err e) =
+    (new ≡ old)
+    × Unless e ((why : PgWireError) × (front version old ≡ Bad why) ×
+    (e ≡ client.PgWireError why))
 
 -- the bytes were appended, or there are none
-abbrev pub PutOut : Result (List ℕ) PgWireError → List ℕ → List ℕ → Result Unit ClientError → Type 0
+abbrev pub PutOut : Result (List ℕ) PgWireError → List ℕ → List ℕ → Result Unit ClientError
+    → Type 0
 PutOut spelled old new (Ok done) = (bytes : List ℕ) × (spelled ≡ Ok bytes) × (new ≡ old ++ bytes)
-PutOut spelled old new (Err e) = (new ≡ old) × Unless e ((why : PgWireError) × (spelled ≡ Err why) × (e ≡ client.PgWireError why))
+PutOut spelled old new (Err e) =
+    (new ≡ old)
+    × Unless e ((why : PgWireError) × (spelled ≡ Err why) × (e ≡ client.PgWireError why))

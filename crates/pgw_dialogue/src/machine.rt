@@ -259,7 +259,8 @@ fn close_and_open(
     out: &mut BytesMut,
 ) -> Result<bool, PgWireClientError>
     ensures own { IfErr result IsOwn }
-    ensures moved { AnswersMove (moves_by notes_book (input_of input.now) notes.old message Next.Closes)
+    ensures moved { AnswersMove (moves_by notes_book (input_of input.now) notes.old message
+        Next.Closes)
         notes.new out.old.items out.new.items result }
 {
     match close(alloc, input, notes, message) {
@@ -394,7 +395,8 @@ fn step(
     requires clean { notes.old.first_passed ≡ None }
     ensures own { IfErr result IsOwn }
     ensures moved { AnswersMove (moves_by notes_book (input_of input.now) notes.old message
-        (next_after (input_of input.now) notes.old.stage message)) notes.new out.old.items out.new.items
+        (next_after (input_of input.now) notes.old.stage message)) notes.new out.old.items
+        out.new.items
         result }
 {
     if let Stage::Answering(kind, rows) = &notes.stage {

@@ -2,12 +2,12 @@
 
 use crate::pieces::{CLIENT, SERVER};
 use bytes::BytesMut;
+use example_dialogue::ask::ask;
+use example_dialogue::push::over_pieces;
 use pgw_client::{
     Answer, Config, Listed, MemoryLink, Octets, OutOfMemory, PgWireClientError, PgWireClientResult,
     Request, Response, SessionReport,
 };
-use example_dialogue::ask::ask;
-use example_dialogue::push::over_pieces;
 use std::alloc::Global;
 use std::test::Fail;
 

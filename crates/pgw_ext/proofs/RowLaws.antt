@@ -24,7 +24,8 @@ pub parse : (ctx : DecodeContext) → IsRow 80 1073741822 (parse_of ctx) SpellsP
 unfolding parse_of
 parse ctx = is_row 80 1073741822 (lit< tt) _ SpellsParse
     (made_last parse_from (λ m. (m.name, (m.query, m.type_oids))) _ _ (λ x. refl) (λ y. refl)
-    (reads_last _ _ (pair_reads name_at SpellsName _ _ name_reads (pair_reads text_at SpellsText _ _ text_reads oids_reads))))
+    (reads_last _ _ (pair_reads name_at SpellsName _ _ name_reads
+    (pair_reads text_at SpellsText _ _ text_reads oids_reads))))
 
 pub parse_complete : (ctx : DecodeContext) → IsRow 49 30000 (parse_complete_of ctx) NoBody
 unfolding parse_complete_of
@@ -45,7 +46,8 @@ bind ctx = is_row 66 1073741822 (lit< tt) _ SpellsBind
     (reads_last _ _ (pair_reads name_at SpellsName _ _ name_reads
     (pair_reads name_at SpellsName _ _ name_reads
     (pair_reads (counted16_at 2 (int_at w16)) (SpellsCounted16 (SpellsInt w16)) _ _ codes_reads
-    (pair_reads (counted16_at 4 nullable_at) (SpellsCounted16 SpellsNullable) _ _ parameters_reads codes_reads))))))
+    (pair_reads (counted16_at 4 nullable_at) (SpellsCounted16 SpellsNullable) _ _ parameters_reads
+    codes_reads))))))
 
 pub bind_complete : (ctx : DecodeContext) → IsRow 50 30000 (bind_complete_of ctx) NoBody
 unfolding bind_complete_of
@@ -60,12 +62,14 @@ target_reads = reads_last _ _ (pair_reads (nat_at w8) (SpellsNat w8) name_at Spe
 pub close : (ctx : DecodeContext) → IsRow 67 10000 (close_of ctx) SpellsClose
 unfolding close_of
 close ctx = is_row 67 10000 (lit< tt) _ SpellsClose
-    (made_last (λ p. record { target_type = p.0; name = p.1 }) (λ m. (m.target_type, m.name)) target_at SpellsTarget (λ x. refl) (λ y. refl) target_reads)
+    (made_last (λ p. record { target_type = p.0; name = p.1 }) (λ m. (m.target_type, m.name)) target_at
+    SpellsTarget (λ x. refl) (λ y. refl) target_reads)
 
 pub describe : (ctx : DecodeContext) → IsRow 68 10000 (describe_of ctx) SpellsDescribe
 unfolding describe_of
 describe ctx = is_row 68 10000 (lit< tt) _ SpellsDescribe
-    (made_last (λ p. record { target_type = p.0; name = p.1 }) (λ m. (m.target_type, m.name)) target_at SpellsTarget (λ x. refl) (λ y. refl) target_reads)
+    (made_last (λ p. record { target_type = p.0; name = p.1 }) (λ m. (m.target_type, m.name)) target_at
+    SpellsTarget (λ x. refl) (λ y. refl) target_reads)
 
 pub close_complete : (ctx : DecodeContext) → IsRow 51 30000 (close_complete_of ctx) NoBody
 unfolding close_complete_of
@@ -76,7 +80,8 @@ close_complete ctx = no_body_row 51 30000 (lit< tt) (record {}) (λ n. refl)
 pub execute : (ctx : DecodeContext) → IsRow 69 10000 (execute_of ctx) SpellsExecute
 unfolding execute_of
 execute ctx = is_row 69 10000 (lit< tt) _ SpellsExecute
-    (made_last (λ p. record { name = p.0; max_rows = p.1 }) (λ m. (m.name, m.max_rows)) _ _ (λ x. refl) (λ y. refl)
+    (made_last (λ p. record { name = p.0; max_rows = p.1 }) (λ m. (m.name, m.max_rows)) _ _ (λ x. refl)
+    (λ y. refl)
     (reads_last _ _ (pair_reads name_at SpellsName (int_at w32) (SpellsInt w32) name_reads (int_reads w32))))
 
 pub portal_suspended : (ctx : DecodeContext) → IsRow 115 30000 (portal_suspended_of ctx) NoBody

@@ -46,7 +46,8 @@ rows_written z fits = int_written w32 wide32 z fits
 
 len_written : (n : ℕ) → n < 2 ^ 31 → SpellsInt w32 (pos n) (u32 n)
 unfolding u32
-len_written n small = let fits : FitsSigned w32 (pos n) = omega (arith, ints, small) in int_written w32 wide32 (pos n) fits
+len_written n small =
+    let fits : FitsSigned w32 (pos n) = omega (arith, ints, small) in int_written w32 wide32 (pos n) fits
 
 minus_one : FitsSigned w32 (negsuc 0)
 minus_one = omega (arith, ints)
@@ -54,26 +55,44 @@ minus_one = omega (arith, ints)
 parameter_written : (o : Option (List ℕ)) → length (parameter o) < 2 ^ 31 → SpellsNullable o (parameter o)
 unfolding parameter
 parameter_written None small = (0, rows_written (negsuc 0) minus_one)
-parameter_written (Some value) small = (u32 (length value), refl, len_written (length value) (omega (arith, length-append (u32 (length value)) value, small)))
+parameter_written (Some value) small = (
+  u32 (length value),
+  refl,
+  len_written (length value)
+      (omega (arith, length-append (u32 (length value)) value, small)),
+)
 
-parameters_written : (vs : List (Option (List ℕ))) → length (flat_map parameter vs) < 2 ^ 31 → SpellsMany SpellsNullable vs (flat_map parameter vs)
+parameters_written : (vs : List (Option (List ℕ))) → length (flat_map parameter vs) < 2 ^ 31
+    → SpellsMany SpellsNullable vs (flat_map parameter vs)
 parameters_written [] small = refl
 parameters_written (v ∷ vs) small =
     let cut = flat_map-cons parameter v vs in
-    let one : length (parameter v) < 2 ^ 31 = omega (arith, ap length cut, length-append (parameter v) (flat_map parameter vs), small) in
-    let others : length (flat_map parameter vs) < 2 ^ 31 = omega (arith, ap length cut, length-append (parameter v) (flat_map parameter vs), small) in
+    let one : length (parameter v) < 2 ^ 31 =
+    omega (arith, ap length cut, length-append (parameter v) (flat_map parameter vs), small) in
+    let others : length (flat_map parameter vs) < 2 ^ 31 =
+    omega (arith, ap length cut, length-append (parameter v) (flat_map parameter vs), small) in
     (parameter v, flat_map parameter vs, cut, parameter_written v one, parameters_written vs others)
 
 -- ---- bodies
 
-oids_written : (ns : List ℕ) → AllByRecursion IsOid ns → is_too_long ns ≡ false → SpellsCounted16 (SpellsNat w32) ns (counted16 u32 ns)
+oids_written : (ns : List ℕ) → AllByRecursion IsOid ns → is_too_long ns ≡ false
+    → SpellsCounted16 (SpellsNat w32) ns (counted16 u32 ns)
 oids_written = counted16_written (SpellsNat w32) u32 IsOid oid_written
 
-codes_written : (zs : List ℤ) → AllByRecursion IsCode zs → is_too_long zs ≡ false → SpellsCounted16 (SpellsInt w16) zs (counted16 i16 zs)
+codes_written : (zs : List ℤ) → AllByRecursion IsCode zs → is_too_long zs ≡ false
+    → SpellsCounted16 (SpellsInt w16) zs (counted16 i16 zs)
 codes_written = counted16_written (SpellsInt w16) i16 IsCode code_written
 
-values_written : (vs : List (Option (List ℕ))) → length (counted16 parameter vs) < 2 ^ 31 → is_too_long vs ≡ false → SpellsCounted16 SpellsNullable vs (counted16 parameter vs)
-values_written vs small few = (u16 (length vs), flat_map parameter vs, refl, count16_written (length vs) few, parameters_written vs (omega (arith, length-append (u16 (length vs)) (flat_map parameter vs), small)))
+values_written : (vs : List (Option (List ℕ))) → length (counted16 parameter vs) < 2 ^ 31 → is_too_long vs ≡ false
+    → SpellsCounted16 SpellsNullable vs (counted16 parameter vs)
+values_written vs small few = (
+  u16 (length vs),
+  flat_map parameter vs,
+  refl,
+  count16_written (length vs) few,
+  parameters_written vs
+      (omega (arith, length-append (u16 (length vs)) (flat_map parameter vs), small)),
+)
 
 pub parse_written : (m : Parse) → IsParse m → refused_if (is_parse_refused m) ≡ None → SpellsParse m (parse m)
 parse_written m sound fine =
@@ -83,27 +102,40 @@ parse_written m sound fine =
       text m.query ++ counted16 u32 m.type_oids,
       append_assoc (name m.name) (text m.query) (counted16 u32 m.type_oids),
       name_written m.name sound.0 p.0,
-      (text m.query, counted16 u32 m.type_oids, refl, text_written m.query q.0 sound.1, oids_written m.type_oids sound.2 q.1),
+      (
+        text m.query,
+        counted16 u32 m.type_oids,
+        refl,
+        text_written m.query q.0 sound.1,
+        oids_written m.type_oids
+            sound.2 q.1,
+      ),
     )
 
 -- the lengths of the parts of five
 middle : (a b c d e : List ℕ) → length (a ++ b ++ c ++ d ++ e) < 2 ^ 31 → length d < 2 ^ 31
 middle a b c d e small = omega (arith, length-append (a ++ b ++ c ++ d) e, length-append (a ++ b ++ c) d, small)
 
-pub bind_written : (m : Bind) → IsBind m → length (bind m) < 2 ^ 31 → refused_if (is_bind_refused m) ≡ None → SpellsBind m (bind m)
+pub bind_written : (m : Bind) → IsBind m → length (bind m) < 2 ^ 31 → refused_if (is_bind_refused m) ≡ None
+    → SpellsBind m (bind m)
 bind_written m sound small fine =
     let p = or_parts _ _ (unrefused _ fine) in
     let q = or_parts (is_name_refused m.portal_name) (is_name_refused m.statement_name) p.0 in
     let r = or_parts (is_too_long m.parameter_format_codes) _ p.1 in
     let s = or_parts (is_too_long m.parameters) (is_too_long m.result_column_format_codes) r.1 in
-    let few = middle (name m.portal_name) (name m.statement_name) (counted16 i16 m.parameter_format_codes) (counted16 parameter m.parameters) (counted16 i16 m.result_column_format_codes) small in (
+    let few =
+    middle (name m.portal_name) (name m.statement_name) (counted16 i16 m.parameter_format_codes)
+    (counted16 parameter m.parameters) (counted16 i16 m.result_column_format_codes) small in (
       name m.portal_name,
-      name m.statement_name ++ (counted16 i16 m.parameter_format_codes ++ (counted16 parameter m.parameters ++ counted16 i16 m.result_column_format_codes)),
+      name m.statement_name ++
+          (counted16 i16 m.parameter_format_codes ++
+          (counted16 parameter m.parameters ++ counted16 i16 m.result_column_format_codes)),
       simp append_assoc,
       name_written m.portal_name sound.0 q.0,
       (
         name m.statement_name,
-        counted16 i16 m.parameter_format_codes ++ (counted16 parameter m.parameters ++ counted16 i16 m.result_column_format_codes),
+        counted16 i16 m.parameter_format_codes ++
+            (counted16 parameter m.parameters ++ counted16 i16 m.result_column_format_codes),
         refl,
         name_written m.statement_name sound.1 q.1,
         (
@@ -111,20 +143,47 @@ bind_written m sound small fine =
           counted16 parameter m.parameters ++ counted16 i16 m.result_column_format_codes,
           refl,
           codes_written m.parameter_format_codes sound.2 r.0,
-          (counted16 parameter m.parameters, counted16 i16 m.result_column_format_codes, refl, values_written m.parameters few s.0, codes_written m.result_column_format_codes sound.3 s.1),
+          (
+            counted16 parameter m.parameters,
+            counted16 i16 m.result_column_format_codes,
+            refl,
+            values_written
+                m.parameters few s.0,
+            codes_written m.result_column_format_codes sound.3 s.1,
+          ),
         ),
       ),
     )
 
-pub target_written : (n : ℕ) (o : Option (List ℕ)) → n < 2 ^ 8 → IsName o → refused_if (is_name_refused o) ≡ None → SpellsTarget (n, o) (n ∷ name o)
-target_written n o small sound fine = (n ∷ [], name o, refl, (refl, omega (arith, small)), name_written o sound (unrefused _ fine))
+pub target_written : (n : ℕ) (o : Option (List ℕ)) → n < 2 ^ 8 → IsName o → refused_if (is_name_refused o) ≡ None
+    → SpellsTarget (n, o) (n ∷ name o)
+target_written n o small sound fine =
+    (n ∷ [], name o, refl, (refl, omega (arith, small)), name_written o sound (unrefused _ fine))
 
-pub execute_written : (m : Execute) → IsExecute m → refused_if (is_name_refused m.name) ≡ None → SpellsExecute m (name m.name ++ i32 m.max_rows)
-execute_written m sound fine = (name m.name, i32 m.max_rows, refl, name_written m.name sound.0 (unrefused _ fine), rows_written m.max_rows sound.1)
+pub execute_written : (m : Execute) → IsExecute m → refused_if (is_name_refused m.name) ≡ None
+    → SpellsExecute m (name m.name ++ i32 m.max_rows)
+execute_written m sound fine = (
+  name m.name,
+  i32 m.max_rows,
+  refl,
+  name_written m.name sound.0 (unrefused _ fine),
+  rows_written m.max_rows
+      sound.1,
+)
 
 -- ---- messages
 
-pub typed_written : {M : Type 0} (byte limit : ℕ) (P : M → List ℕ → Type 0) (m : M) (fault : Option PgWireError) (body g : List ℕ) → limit < 2 ^ 31 → encoded (Typed byte) limit fault body ≡ Ok g → (length body < 2 ^ 31 → fault ≡ None → P m body) → SpellsTyped byte limit P m g
+pub typed_written : {M : Type 0} (byte limit : ℕ) (P : M → List ℕ → Type 0) (m : M) (fault : Option PgWireError)
+    (body g : List ℕ)
+    → limit < 2 ^ 31 → encoded (Typed byte) limit fault body ≡ Ok g
+    → (length body < 2 ^ 31 → fault ≡ None → P m body) → SpellsTyped byte limit P m g
 typed_written byte limit P m fault body g small is law =
-    let p = encoded_parts (Typed byte) limit fault body g small is in
-    (to_be_bytes w32 (length body + 4), body, p.2, nat_written w32 wide32 (length body + 4) (omega (arith, p.0, small)), p.0, law (omega (arith, p.0, small)) p.1)
+    let p = encoded_parts (Typed byte) limit fault body g small is in (
+      to_be_bytes w32 (length body + 4),
+      body,
+      p.2,
+      nat_written w32 wide32 (length body + 4)
+          (omega (arith, p.0, small)),
+      p.0,
+      law (omega (arith, p.0, small)) p.1,
+    )

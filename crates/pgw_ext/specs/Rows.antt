@@ -27,10 +27,14 @@ abbrev pub parse_from : Option (List ℕ) × (List ℕ × List ℕ) → Parse
 parse_from p = record { name = p.0; query = p.1.0; type_oids = p.1.1 }
 
 unfoldable pub parse_of : DecodeContext → List ℕ → Result Parse PgWireError
-parse_of ctx bytes = all_of (made_at parse_from (pair_at name_at (pair_at text_at (counted16_at 4 (nat_at w32)))) bytes)
+parse_of ctx bytes =
+    all_of (made_at parse_from (pair_at name_at (pair_at text_at (counted16_at 4 (nat_at w32))))
+    bytes)
 
 abbrev pub SpellsParse : Parse → List ℕ → Type 0
-SpellsParse m = Pair SpellsName (Pair SpellsText (SpellsCounted16 (SpellsNat w32))) (m.name, (m.query, m.type_oids))
+SpellsParse m =
+    Pair SpellsName (Pair SpellsText (SpellsCounted16 (SpellsNat w32)))
+    (m.name, (m.query, m.type_oids))
 
 abbrev pub parse : Parse → List ℕ
 parse m = name m.name ++ text m.query ++ counted16 u32 m.type_oids
@@ -48,22 +52,48 @@ abbrev pub BindParts : Type 0
 BindParts = Option (List ℕ) × (Option (List ℕ) × (List ℤ × (List (Option (List ℕ)) × List ℤ)))
 
 abbrev pub bind_from : BindParts → Bind
-bind_from p = record { portal_name = p.0; statement_name = p.1.0; parameter_format_codes = p.1.1.0; parameters = p.1.1.1.0; result_column_format_codes = p.1.1.1.1 }
+bind_from p =
+    record {
+      portal_name = p.0;
+      statement_name = p.1.0;
+      parameter_format_codes = p.1.1.0;
+      parameters = p.1.1.1.0;
+      result_column_format_codes = p.1.1.1.1;
+    }
 
 abbrev pub bind_parts : Bind → BindParts
-bind_parts m = (m.portal_name, (m.statement_name, (m.parameter_format_codes, (m.parameters, m.result_column_format_codes))))
+bind_parts m = (
+  m.portal_name,
+  (
+    m.statement_name,
+    (
+      m.parameter_format_codes,
+      (m.parameters, m.result_column_format_codes),
+    ),
+  ),
+)
 
 unfoldable pub bind_of : DecodeContext → List ℕ → Result Bind PgWireError
-bind_of ctx bytes = all_of (made_at bind_from (pair_at name_at (pair_at name_at (pair_at (counted16_at 2 (int_at w16)) (pair_at (counted16_at 4 nullable_at) (counted16_at 2 (int_at w16)))))) bytes)
+bind_of ctx bytes =
+    all_of (made_at bind_from
+    (pair_at name_at (pair_at name_at (pair_at (counted16_at 2 (int_at w16))
+    (pair_at (counted16_at 4 nullable_at) (counted16_at 2 (int_at w16)))))) bytes)
 
 abbrev pub SpellsBind : Bind → List ℕ → Type 0
-SpellsBind m = Pair SpellsName (Pair SpellsName (Pair (SpellsCounted16 (SpellsInt w16)) (Pair (SpellsCounted16 SpellsNullable) (SpellsCounted16 (SpellsInt w16))))) (bind_parts m)
+SpellsBind m =
+    Pair SpellsName (Pair SpellsName (Pair (SpellsCounted16 (SpellsInt w16))
+    (Pair (SpellsCounted16 SpellsNullable) (SpellsCounted16 (SpellsInt w16))))) (bind_parts m)
 
 abbrev pub bind : Bind → List ℕ
-bind m = name m.portal_name ++ name m.statement_name ++ counted16 i16 m.parameter_format_codes ++ counted16 parameter m.parameters ++ counted16 i16 m.result_column_format_codes
+bind m =
+    name m.portal_name ++ name m.statement_name ++ counted16 i16 m.parameter_format_codes ++
+    counted16 parameter m.parameters ++ counted16 i16 m.result_column_format_codes
 
 abbrev pub is_bind_refused : Bind → Bool
-is_bind_refused m = (is_name_refused m.portal_name || is_name_refused m.statement_name) || (is_too_long m.parameter_format_codes || (is_too_long m.parameters || is_too_long m.result_column_format_codes))
+is_bind_refused m =
+    (is_name_refused m.portal_name || is_name_refused m.statement_name) ||
+    (is_too_long m.parameter_format_codes ||
+    (is_too_long m.parameters || is_too_long m.result_column_format_codes))
 
 unfoldable pub bind_complete_of : DecodeContext → List ℕ → Result BindComplete PgWireError
 bind_complete_of ctx bytes = all_of (Ok (record {}, bytes))
@@ -78,7 +108,8 @@ abbrev pub SpellsTarget : ℕ × Option (List ℕ) → List ℕ → Type 0
 SpellsTarget = Pair (SpellsNat w8) SpellsName
 
 unfoldable pub close_of : DecodeContext → List ℕ → Result Close PgWireError
-close_of ctx bytes = all_of (made_at (λ p. record { target_type = p.0; name = p.1 }) target_at bytes)
+close_of ctx bytes =
+    all_of (made_at (λ p. record { target_type = p.0; name = p.1 }) target_at bytes)
 
 abbrev pub SpellsClose : Close → List ℕ → Type 0
 SpellsClose m = SpellsTarget (m.target_type, m.name)
@@ -87,7 +118,8 @@ unfoldable pub close_complete_of : DecodeContext → List ℕ → Result CloseCo
 close_complete_of ctx bytes = all_of (Ok (record {}, bytes))
 
 unfoldable pub describe_of : DecodeContext → List ℕ → Result Describe PgWireError
-describe_of ctx bytes = all_of (made_at (λ p. record { target_type = p.0; name = p.1 }) target_at bytes)
+describe_of ctx bytes =
+    all_of (made_at (λ p. record { target_type = p.0; name = p.1 }) target_at bytes)
 
 abbrev pub SpellsDescribe : Describe → List ℕ → Type 0
 SpellsDescribe m = SpellsTarget (m.target_type, m.name)
@@ -95,7 +127,9 @@ SpellsDescribe m = SpellsTarget (m.target_type, m.name)
 -- ---- Execute, PortalSuspended
 
 unfoldable pub execute_of : DecodeContext → List ℕ → Result Execute PgWireError
-execute_of ctx bytes = all_of (made_at (λ p. record { name = p.0; max_rows = p.1 }) (pair_at name_at (int_at w32)) bytes)
+execute_of ctx bytes =
+    all_of (made_at (λ p. record { name = p.0; max_rows = p.1 }) (pair_at name_at (int_at w32))
+    bytes)
 
 abbrev pub SpellsExecute : Execute → List ℕ → Type 0
 SpellsExecute m = Pair SpellsName (SpellsInt w32) (m.name, m.max_rows)

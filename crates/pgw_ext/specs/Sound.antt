@@ -17,7 +17,10 @@ abbrev pub IsParse : Parse → Type 0
 IsParse m = IsName m.name × IsUtf8 m.query × AllByRecursion IsOid m.type_oids
 
 abbrev pub IsBind : Bind → Type 0
-IsBind m = IsName m.portal_name × IsName m.statement_name × AllByRecursion IsCode m.parameter_format_codes × AllByRecursion IsCode m.result_column_format_codes
+IsBind m =
+    IsName m.portal_name × IsName m.statement_name
+    × AllByRecursion IsCode m.parameter_format_codes
+    × AllByRecursion IsCode m.result_column_format_codes
 
 abbrev pub IsClose : Close → Type 0
 IsClose m = (m.target_type < 2 ^ 8) × IsName m.name

@@ -18,11 +18,14 @@ use Rattle.pgw_frontend.specs.declared.frontend.PgWireFrontendMessage.TheVariant
 
 -- these bytes, and no others, spell the message; that no encryption is asked for is spelled by none
 unfoldable pub SpellsFrontend : ProtocolVersion → PgWireFrontendMessage → List ℕ → Type 0
-SpellsFrontend version (frontend.SslNegotiation (negotiation.PostgresSsl m)) = SpellsCoded 80877103
-SpellsFrontend version (frontend.SslNegotiation (negotiation.PostgresGss m)) = SpellsCoded 80877104
+SpellsFrontend version (frontend.SslNegotiation (negotiation.PostgresSsl m)) =
+    SpellsCoded 80877103
+SpellsFrontend version (frontend.SslNegotiation (negotiation.PostgresGss m)) =
+    SpellsCoded 80877104
 SpellsFrontend version (frontend.SslNegotiation negotiation.None) = λ bytes. bytes ≡ []
 SpellsFrontend version (frontend.Startup m) = SpellsUntyped 10000 SpellsStartup m
-SpellsFrontend version (frontend.CancelRequest m) = SpellsUntyped 10000 (SpellsCancelRequest version) m
+SpellsFrontend version (frontend.CancelRequest m) =
+    SpellsUntyped 10000 (SpellsCancelRequest version) m
 SpellsFrontend version (frontend.PasswordMessageFamily m) = SpellsTyped 112 10000 SpellsRaw m
 SpellsFrontend version (frontend.PortalSuspended m) = SpellsTyped 115 30000 NoBody m
 SpellsFrontend version (frontend.Query m) = SpellsTyped 81 1073741822 SpellsQuery m
@@ -48,8 +51,10 @@ AwaitsTyped ctx = (ctx.awaiting_frontend_ssl ≡ false) × (ctx.awaiting_fronten
 -- the phase in which the message is read; a minor version has 16 bits, as every value of the program's has.
 -- A PortalSuspended is never read of a client, and that no encryption is asked for has no bytes
 abbrev pub AwaitsFrontend : DecodeContext → PgWireFrontendMessage → Type 0
-AwaitsFrontend ctx (frontend.SslNegotiation (negotiation.PostgresSsl m)) = ctx.awaiting_frontend_ssl ≡ true
-AwaitsFrontend ctx (frontend.SslNegotiation (negotiation.PostgresGss m)) = ctx.awaiting_frontend_ssl ≡ true
+AwaitsFrontend ctx (frontend.SslNegotiation (negotiation.PostgresSsl m)) =
+    ctx.awaiting_frontend_ssl ≡ true
+AwaitsFrontend ctx (frontend.SslNegotiation (negotiation.PostgresGss m)) =
+    ctx.awaiting_frontend_ssl ≡ true
 AwaitsFrontend ctx (frontend.SslNegotiation negotiation.None) = ⊥
 AwaitsFrontend ctx (frontend.Startup m) = AwaitsFirst ctx × (m.protocol_number_minor < 2 ^ 16)
 AwaitsFrontend ctx (frontend.CancelRequest m) = AwaitsFirst ctx
@@ -65,8 +70,10 @@ name_again (Some t) = name_of t
 
 -- and what a body is read as cannot be told from its bytes
 abbrev pub as_read : PgWireFrontendMessage → PgWireFrontendMessage
-as_read (frontend.PasswordMessageFamily m) = frontend.PasswordMessageFamily (family.Raw (password_body m))
-as_read (frontend.Parse m) = frontend.Parse (record { name = name_again m.name; query = m.query; type_oids = m.type_oids })
+as_read (frontend.PasswordMessageFamily m) =
+    frontend.PasswordMessageFamily (family.Raw (password_body m))
+as_read (frontend.Parse m) =
+    frontend.Parse (record { name = name_again m.name; query = m.query; type_oids = m.type_oids })
 as_read (frontend.Bind m) = frontend.Bind (record {
   portal_name = name_again m.portal_name;
   statement_name = name_again m.statement_name;
@@ -74,9 +81,12 @@ as_read (frontend.Bind m) = frontend.Bind (record {
   parameters = m.parameters;
   result_column_format_codes = m.result_column_format_codes;
 })
-as_read (frontend.Close m) = frontend.Close (record { target_type = m.target_type; name = name_again m.name })
-as_read (frontend.Describe m) = frontend.Describe (record { target_type = m.target_type; name = name_again m.name })
-as_read (frontend.Execute m) = frontend.Execute (record { name = name_again m.name; max_rows = m.max_rows })
+as_read (frontend.Close m) =
+    frontend.Close (record { target_type = m.target_type; name = name_again m.name })
+as_read (frontend.Describe m) =
+    frontend.Describe (record { target_type = m.target_type; name = name_again m.name })
+as_read (frontend.Execute m) =
+    frontend.Execute (record { name = name_again m.name; max_rows = m.max_rows })
 as_read m = m
 
 -- only a key hangs on the version

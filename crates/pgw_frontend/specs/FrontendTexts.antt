@@ -16,8 +16,12 @@ abbrev pub IsSoundFrontend : PgWireFrontendMessage → Type 0
 IsSoundFrontend (frontend.Startup m) = IsStartup m
 IsSoundFrontend (frontend.CancelRequest m) = IsCancelRequest m
 IsSoundFrontend (frontend.Query m) = IsUtf8 m.query
-IsSoundFrontend (frontend.Parse m) = IsText m.name × IsUtf8 m.query × AllByRecursion IsOid m.type_oids
-IsSoundFrontend (frontend.Bind m) = IsText m.portal_name × IsText m.statement_name × AllByRecursion IsCode m.parameter_format_codes × AllByRecursion IsCode m.result_column_format_codes
+IsSoundFrontend (frontend.Parse m) =
+    IsText m.name × IsUtf8 m.query × AllByRecursion IsOid m.type_oids
+IsSoundFrontend (frontend.Bind m) =
+    IsText m.portal_name × IsText m.statement_name
+    × AllByRecursion IsCode m.parameter_format_codes
+    × AllByRecursion IsCode m.result_column_format_codes
 IsSoundFrontend (frontend.Close m) = (m.target_type < 2 ^ 8) × IsText m.name
 IsSoundFrontend (frontend.Describe m) = (m.target_type < 2 ^ 8) × IsText m.name
 IsSoundFrontend (frontend.Execute m) = IsText m.name × FitsSigned w32 m.max_rows

@@ -9,12 +9,12 @@ ghost use Rattle.pgw_frontend.specs.declared.frontend.PgWireFrontendMessage.{PgW
 
 use crate::sound::is_sound;
 use bytes::BytesMut;
-use pgw_copy::copy::{CopyData, CopyDone, CopyFail};
-use pgw_ext::extendedquery::{Bind, Close, Describe, Execute, Flush, Parse, PortalSuspended, Sync};
 use pgw_control::cancel::CancelRequest;
 use pgw_control::gss_enc_request::GssEncRequest;
 use pgw_control::ssl_request::SslRequest;
 use pgw_control::terminate::Terminate;
+use pgw_copy::copy::{CopyData, CopyDone, CopyFail};
+use pgw_ext::extendedquery::{Bind, Close, Describe, Execute, Flush, Parse, PortalSuspended, Sync};
 use pgw_query::simplequery::Query;
 use pgw_startup::password::PasswordMessageFamily;
 use pgw_startup::startup::Startup;

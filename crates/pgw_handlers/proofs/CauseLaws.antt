@@ -6,7 +6,8 @@ use Rattle.pgw_backend.specs.declared.client_error.PgWireClientError.TheVariants
 use Rattle.pgw_backend.specs.ClientError.{IsUnexpected}
 use Rattle.pgw_handlers.specs.Handling.{IsCaused}
 
-pub unexpected_is_caused : (m : Backend) → (e : ClientError) → (before now : ℕ) → (broken : Bool) → IsUnexpected m e → IsCaused e before now broken
+pub unexpected_is_caused : (m : Backend) → (e : ClientError) → (before now : ℕ) → (broken : Bool)
+    → IsUnexpected m e → IsCaused e before now broken
 unexpected_is_caused m client.IoError before now broken h = absurd h
 unexpected_is_caused m client.Broken before now broken h = absurd h
 unexpected_is_caused m e before now broken h = tt

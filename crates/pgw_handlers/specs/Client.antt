@@ -25,10 +25,14 @@ pub record Sight : Type 0 where
 
 -- each part set, and the others as they were
 abbrev pub with_parameter : List ℕ → List ℕ → Sight → Sight
-with_parameter name value s = record s { client = record s.client { parameters = map.insert s.client.parameters name value } }
+with_parameter name value s =
+    record s {
+      client = record s.client { parameters = map.insert s.client.parameters name value };
+    }
 
 abbrev pub with_sight_version : ProtocolVersion → Sight → Sight
-with_sight_version version s = record s { client = record s.client { protocol_version = version } }
+with_sight_version version s =
+    record s { client = record s.client { protocol_version = version } }
 
 abbrev pub with_sight_status : TransactionStatus → Sight → Sight
 with_sight_status status s = record s { client = record s.client { transaction_status = status } }

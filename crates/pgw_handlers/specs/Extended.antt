@@ -71,7 +71,8 @@ of_tag (Err e) = Err e
 
 -- They are heard one after the other, as each is by itself, and these are their responses; for none is anything sent, or
 -- told of the client.
-pub data HearsRows {H R : Type 0} (M : HandlerView H → ExtendedCall → HandlerView H → Given R → Type 0)
+pub data HearsRows {H R : Type 0}
+    (M : HandlerView H → ExtendedCall → HandlerView H → Given R → Type 0)
     : List DataRow → List R → H → H → Type 0 where
   none : (h : H) → HearsRows M [] [] h h
   hears : (row : DataRow) (made : R) (rows : List DataRow) (more : List R) (h next after : H) →
@@ -82,7 +83,8 @@ pub data HearsRows {H R : Type 0} (M : HandlerView H → ExtendedCall → Handle
 -- so many rows that stand whole at the front of some bytes were taken, and heard so; their responses were put behind others
 pub record TakesExtendedRows {H R : Type 0}
     (M : HandlerView H → ExtendedCall → HandlerView H → Given R → Type 0)
-    (old new : H) (old_responses new_responses : List R) (old_bytes new_bytes : List ℕ) (count : ℕ)
+    (old new : H) (old_responses new_responses : List R) (old_bytes new_bytes : List ℕ)
+    (count : ℕ)
     : Type 0 where
   pub rows : List DataRow
   pub made : List R

@@ -50,16 +50,21 @@ abbrev pub IsRefusal : {A : Type 0} → (ClientError → Type 0) → CallAnswer 
 IsRefusal P (Ok x) = ⊥
 IsRefusal P (Err e) = P e
 
-abbrev pub HandlerRefuses : {H A : Type 0} → (ClientError → Type 0) → HandlerView H → HandlerView H → CallAnswer A → Type 0
+abbrev pub HandlerRefuses : {H A : Type 0} → (ClientError → Type 0) → HandlerView H
+    → HandlerView H → CallAnswer A → Type 0
 HandlerRefuses P before after answer = (after ≡ before) × IsRefusal P answer
 
 -- a parameter that the server reports is the client's from then on, unless memory runs out
-abbrev pub KeepsParameter : {H A : Type 0} → ParameterStatus → HandlerView H → HandlerView H → CallAnswer A → Type 0
-KeepsParameter m before after (Ok answer) = (after ≡ standing before.handler (with_parameter m.name m.value before.sight)) × (answer ≡ Pending)
+abbrev pub KeepsParameter : {H A : Type 0} → ParameterStatus → HandlerView H → HandlerView H
+    → CallAnswer A → Type 0
+KeepsParameter m before after (Ok answer) =
+    (after ≡ standing before.handler (with_parameter m.name m.value before.sight))
+    × (answer ≡ Pending)
 KeepsParameter m before after (Err e) = (after ≡ before) × (e ≡ client.OutOfMemory)
 
 -- a notification has no place
-abbrev pub HandlerMisplaces : {H A : Type 0} → NotificationResponse → HandlerView H → HandlerView H → CallAnswer A →
+abbrev pub HandlerMisplaces : {H A : Type 0} → NotificationResponse → HandlerView H
+    → HandlerView H → CallAnswer A →
     Type 0
 HandlerMisplaces m before after answer =
     HandlerRefuses (IsUnexpected (backend.NotificationResponse m)) before after answer
@@ -76,7 +81,8 @@ abbrev pub OfError : {T : Type 0} → Result T ClientError → ℕ → ℕ → B
 OfError (Ok x) before now broken = Unit {0}
 OfError (Err e) before now broken = IsCaused e before now broken
 
-pub record HasCause {T : Type 0} (before now : ℕ) (broken : Bool) (result : Result T ClientError) : Type 0 where
+pub record HasCause {T : Type 0} (before now : ℕ) (broken : Bool) (result : Result T ClientError)
+    : Type 0 where
   pub later : before ≤ now
   pub failed : OfError result before now broken
 

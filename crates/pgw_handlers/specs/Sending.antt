@@ -34,7 +34,8 @@ abbrev pub NotSent : Result (List ℕ) PgWireError → Sight → Sight → Clien
 NotSent spelled old new client.Broken = (old.broken ≡ true) × (new ≡ old)
 NotSent spelled old new client.IoError = WritesFront spelled old new
 NotSent spelled old new client.OutOfMemory = WritesFront spelled old new
-NotSent spelled old new (client.PgWireError why) = (old.broken ≡ false) × (spelled ≡ Err why) × (new ≡ old)
+NotSent spelled old new (client.PgWireError why) =
+    (old.broken ≡ false) × (spelled ≡ Err why) × (new ≡ old)
 NotSent spelled old new e = ⊥
 
 -- whether the client can be used before and behind the call, by its answer

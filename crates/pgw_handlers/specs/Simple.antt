@@ -30,15 +30,25 @@ pub data SimpleCall : Type 0 where
   on_ready_for_query : ReadyForQuery → SimpleCall
 
 -- what it is to hear a message: its function is called, and behind ReadyForQuery with the status set
-abbrev pub HeardInQuery : {H R : Type 0} → (HandlerView H → SimpleCall → HandlerView H → CallAnswer (List R) → Type 0) → HandlerView H → Backend → HandlerView H → CallAnswer (List R) → Type 0
-HeardInQuery M before (backend.RowDescription m) after answer = M before (on_row_description m) after answer
+abbrev pub HeardInQuery : {H R : Type 0}
+    → (HandlerView H → SimpleCall → HandlerView H → CallAnswer (List R) → Type 0) → HandlerView H
+    → Backend → HandlerView H → CallAnswer (List R) → Type 0
+HeardInQuery M before (backend.RowDescription m) after answer =
+    M before (on_row_description m) after answer
 HeardInQuery M before (backend.DataRow m) after answer = M before (on_data_row m) after answer
-HeardInQuery M before (backend.CommandComplete m) after answer = M before (on_command_complete m) after answer
-HeardInQuery M before (backend.EmptyQueryResponse m) after answer = M before (on_empty_query m) after answer
-HeardInQuery M before (backend.ParameterStatus m) after answer = M before (on_parameter_status m) after answer
-HeardInQuery M before (backend.ReadyForQuery m) after answer = M (standing before.handler (with_sight_status m.status before.sight)) (on_ready_for_query m) after answer
-HeardInQuery M before (backend.ErrorResponse m) after answer = HandlerRefuses (λ e. e ≡ client.RemoteError m) before after answer
-HeardInQuery M before (backend.NoticeResponse m) after answer = M before (on_notice m) after answer
+HeardInQuery M before (backend.CommandComplete m) after answer =
+    M before (on_command_complete m) after answer
+HeardInQuery M before (backend.EmptyQueryResponse m) after answer =
+    M before (on_empty_query m) after answer
+HeardInQuery M before (backend.ParameterStatus m) after answer =
+    M before (on_parameter_status m) after answer
+HeardInQuery M before (backend.ReadyForQuery m) after answer =
+    M (standing before.handler (with_sight_status m.status before.sight)) (on_ready_for_query m)
+    after answer
+HeardInQuery M before (backend.ErrorResponse m) after answer =
+    HandlerRefuses (λ e. e ≡ client.RemoteError m) before after answer
+HeardInQuery M before (backend.NoticeResponse m) after answer =
+    M before (on_notice m) after answer
 HeardInQuery M before (backend.NotificationResponse m) after answer =
     M before (on_notification m) after answer
 HeardInQuery M before m after answer = HandlerRefuses (IsUnexpected m) before after answer

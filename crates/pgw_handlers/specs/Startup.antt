@@ -31,12 +31,18 @@ pub data StartupCall : Type 0 where
   on_ready_for_query : ReadyForQuery → StartupCall
 
 -- a version that the server offers and the client knows is in force from then on
-abbrev pub SettlesBy : {H A : Type 0} → Option ProtocolVersion → NegotiateProtocolVersion → HandlerView H → HandlerView H → CallAnswer A → Type 0
-SettlesBy (Some version) m before after answer = (after ≡ standing before.handler (with_sight_version version before.sight)) × (answer ≡ Ok Pending)
-SettlesBy None m before after answer = HandlerRefuses (IsUnexpected (backend.NegotiateProtocolVersion m)) before after answer
+abbrev pub SettlesBy : {H A : Type 0} → Option ProtocolVersion → NegotiateProtocolVersion
+    → HandlerView H → HandlerView H → CallAnswer A → Type 0
+SettlesBy (Some version) m before after answer =
+    (after ≡ standing before.handler (with_sight_version version before.sight))
+    × (answer ≡ Ok Pending)
+SettlesBy None m before after answer =
+    HandlerRefuses (IsUnexpected (backend.NegotiateProtocolVersion m)) before after answer
 
-abbrev pub SettlesVersion : {H A : Type 0} → NegotiateProtocolVersion → HandlerView H → HandlerView H → CallAnswer A → Type 0
-SettlesVersion m before after answer = SettlesBy (negotiated_version m.newest_minor_protocol) m before after answer
+abbrev pub SettlesVersion : {H A : Type 0} → NegotiateProtocolVersion → HandlerView H
+    → HandlerView H → CallAnswer A → Type 0
+SettlesVersion m before after answer =
+    SettlesBy (negotiated_version m.newest_minor_protocol) m before after answer
 
 -- within a login exchange a server says what the exchange consists of, or an error, and nothing else
 abbrev pub may_come_in_login : Bool → Backend → Bool
@@ -50,22 +56,37 @@ IsAdmitted in_exchange m (Ok same) = (same ≡ m) × (may_come_in_login in_excha
 IsAdmitted in_exchange m (Err e) = IsUnexpected m e × (may_come_in_login in_exchange m ≡ false)
 
 -- a message has its function, which is called, and behind ReadyForQuery with the status set
-abbrev pub HearsStartup : {H : Type 0} → (HandlerView H → StartupCall → HandlerView H → CallAnswer ServerInformation → Type 0) → HandlerView H → Backend → HandlerView H → CallAnswer ServerInformation → Type 0
-HearsStartup M before (backend.Authentication m) after answer = M before (on_authentication m) after answer
-HearsStartup M before (backend.NegotiateProtocolVersion m) after answer = M before (on_negotiate_protocol_version m) after answer
-HearsStartup M before (backend.ParameterStatus m) after answer = M before (on_parameter_status m) after answer
-HearsStartup M before (backend.BackendKeyData m) after answer = M before (on_backend_key m) after answer
-HearsStartup M before (backend.ReadyForQuery m) after answer = M (standing before.handler (with_sight_status m.status before.sight)) (on_ready_for_query m) after answer
-HearsStartup M before (backend.ErrorResponse m) after answer = HandlerRefuses (λ e. e ≡ client.RemoteError m) before after answer
-HearsStartup M before (backend.NoticeResponse m) after answer = M before (on_notice m) after answer
+abbrev pub HearsStartup : {H : Type 0}
+    → (HandlerView H → StartupCall → HandlerView H → CallAnswer ServerInformation → Type 0)
+    → HandlerView H → Backend → HandlerView H → CallAnswer ServerInformation → Type 0
+HearsStartup M before (backend.Authentication m) after answer =
+    M before (on_authentication m) after answer
+HearsStartup M before (backend.NegotiateProtocolVersion m) after answer =
+    M before (on_negotiate_protocol_version m) after answer
+HearsStartup M before (backend.ParameterStatus m) after answer =
+    M before (on_parameter_status m) after answer
+HearsStartup M before (backend.BackendKeyData m) after answer =
+    M before (on_backend_key m) after answer
+HearsStartup M before (backend.ReadyForQuery m) after answer =
+    M (standing before.handler (with_sight_status m.status before.sight)) (on_ready_for_query m)
+    after answer
+HearsStartup M before (backend.ErrorResponse m) after answer =
+    HandlerRefuses (λ e. e ≡ client.RemoteError m) before after answer
+HearsStartup M before (backend.NoticeResponse m) after answer =
+    M before (on_notice m) after answer
 HearsStartup M before (backend.NotificationResponse m) after answer =
     M before (on_notification m) after answer
 HearsStartup M before m after answer = HandlerRefuses (IsUnexpected m) before after answer
 
-abbrev pub HearsIf : {H : Type 0} → Bool → (HandlerView H → StartupCall → HandlerView H → CallAnswer ServerInformation → Type 0) → HandlerView H → Backend → HandlerView H → CallAnswer ServerInformation → Type 0
+abbrev pub HearsIf : {H : Type 0} → Bool
+    → (HandlerView H → StartupCall → HandlerView H → CallAnswer ServerInformation → Type 0)
+    → HandlerView H → Backend → HandlerView H → CallAnswer ServerInformation → Type 0
 HearsIf true M before m after answer = HearsStartup M before m after answer
 HearsIf false M before m after answer = HandlerRefuses (IsUnexpected m) before after answer
 
 -- what it is to hear a message, by whether the handler is in an exchange: it has its function, or may not come
-abbrev pub HeardAtStartup : {H : Type 0} → (H → Bool) → (HandlerView H → StartupCall → HandlerView H → CallAnswer ServerInformation → Type 0) → HandlerView H → Backend → HandlerView H → CallAnswer ServerInformation → Type 0
-HeardAtStartup exchanges M before m after answer = HearsIf (may_come_in_login (exchanges before.handler) m) M before m after answer
+abbrev pub HeardAtStartup : {H : Type 0} → (H → Bool)
+    → (HandlerView H → StartupCall → HandlerView H → CallAnswer ServerInformation → Type 0)
+    → HandlerView H → Backend → HandlerView H → CallAnswer ServerInformation → Type 0
+HeardAtStartup exchanges M before m after answer =
+    HearsIf (may_come_in_login (exchanges before.handler) m) M before m after answer

@@ -19,7 +19,8 @@ pub trait Outgoing: Seen {
             (Self.sight self.new) e) }
         ensures spelled { IsSpelled (encoding message) result }
         ensures client { (Self.sight self.new).client ≡ (Self.sight self.old).client }
-        ensures usable { SendLeavesUsable result (Self.sight self.old).broken (Self.sight self.new).broken }
+        ensures usable { SendLeavesUsable result (Self.sight self.old).broken
+            (Self.sight self.new).broken }
         ensures leaves { Leaves Self.own Self.rest Self.faults Self.sight self.old self.new
             result };
 }

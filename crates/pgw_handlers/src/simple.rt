@@ -25,7 +25,8 @@ pub trait SimpleQueryHandler {
     type QueryResponse: Drop;
 
     /// What the handler does: a call leads from one standing to another, and gives the answer.
-    ghost means: { HandlerView Self → SimpleCall → HandlerView Self → CallAnswer (List Self.QueryResponse) →
+    ghost means: { HandlerView Self → SimpleCall → HandlerView Self →
+        CallAnswer (List Self.QueryResponse) →
         Type 0 };
 
     /// Asks the query.

@@ -24,7 +24,8 @@ use std::alloc::Global;
 /// Logs a client in: it sends what begins a connection, and hears the server's messages up to the first ReadyForQuery.
 pub trait StartupHandler {
     /// What the handler does: a call leads from one standing to another, and gives the answer.
-    ghost means: { HandlerView Self → StartupCall → HandlerView Self → CallAnswer TheInformation → Type 0 };
+    ghost means: { HandlerView Self → StartupCall → HandlerView Self → CallAnswer TheInformation →
+        Type 0 };
 
     /// Whether the handler is within a login exchange, where a server says nothing else than the next of it.
     ghost exchanges: { Self → Bool };
@@ -199,7 +200,8 @@ pub trait StartupHandler {
         means before (on_negotiate_protocol_version m) after answer };
 
     /// leave a parameter to the client,
-    ghost keeps: { (before after : HandlerView Self) (m : TheStatus) (answer : CallAnswer TheInformation) →
+    ghost keeps: { (before after : HandlerView Self) (m : TheStatus)
+        (answer : CallAnswer TheInformation) →
         KeepsParameter m before after answer → means before (on_parameter_status m) after answer };
 
     /// do nothing with a notice,

@@ -56,8 +56,10 @@ rows_noted t new opened put old_bytes new_bytes count is fine so m =
       spelled = m.spelled;
       cut = m.cut;
       heard =
-          subst (λ (x : Tally). simple.HearsRows QueryMeans m.rows (record { tally = x }) (record { tally = new })) (sym was)
-          (subst (λ (x : Tally). simple.HearsRows QueryMeans m.rows (open_at t opened) (record { tally = x })) (sym now)
+          subst (λ (x : Tally). simple.HearsRows QueryMeans m.rows (record { tally = x })
+          (record { tally = new })) (sym was)
+          (subst (λ (x : Tally). simple.HearsRows QueryMeans m.rows (open_at t opened) (record { tally = x }))
+          (sym now)
           (rows_heard t opened m.rows));
       counted = m.counted;
     }
@@ -66,12 +68,15 @@ none_of : {A : Type 0} (o : Option A) (b : Bool) → b ≡ false → b ≡ is_so
 none_of None b e f = refl
 none_of (Some x) b e f = absurd cc
 
-pub rows_noted_on : (t : Tally) (opened : Opened) (put : List DataRow) (old_bytes new_bytes : List ℕ) (failed : Bool) (result : Result ℕ OutOfMemory)
+pub rows_noted_on : (t : Tally) (opened : Opened) (put : List DataRow) (old_bytes new_bytes : List ℕ)
+    (failed : Bool) (result : Result ℕ OutOfMemory)
     → t.opened ≡ Some opened → failed ≡ false → failed ≡ is_some t.remote
     → IfOk result (MovesRows opened.rows put old_bytes new_bytes)
-    → IfOk result (simple.TakesSimpleRows QueryMeans (record { tally = t }) (record { tally = record t { opened = Some (record opened { rows = put }) } }) old_bytes new_bytes)
+    → IfOk result (simple.TakesSimpleRows QueryMeans (record { tally = t })
+    (record { tally = record t { opened = Some (record opened { rows = put }) } }) old_bytes new_bytes)
 rows_noted_on t opened put old_bytes new_bytes failed (Ok count) is e f m =
-    rows_noted t (record t { opened = Some (record opened { rows = put }) }) opened put old_bytes new_bytes count is (none_of t.remote failed e f) refl m
+    rows_noted t (record t { opened = Some (record opened { rows = put }) }) opened put old_bytes new_bytes count
+    is (none_of t.remote failed e f) refl m
 rows_noted_on t opened put old_bytes new_bytes failed (Err why) is e f m = tt
 
 -- ---- of extended queries
@@ -95,7 +100,8 @@ rows_kept h old new old_bytes new_bytes count m = record {
   counted = m.counted;
 }
 
-pub rows_kept_on : (h : DefaultExtendedQueryHandler) (old new : List DataRow) (old_bytes new_bytes : List ℕ) (result : Result ℕ OutOfMemory)
+pub rows_kept_on : (h : DefaultExtendedQueryHandler) (old new : List DataRow) (old_bytes new_bytes : List ℕ)
+    (result : Result ℕ OutOfMemory)
     → IfOk result (MovesRows old new old_bytes new_bytes)
     → IfOk result (extended.TakesExtendedRows ExtendedMeans h h old new old_bytes new_bytes)
 rows_kept_on h old new old_bytes new_bytes (Ok count) m = rows_kept h old new old_bytes new_bytes count m

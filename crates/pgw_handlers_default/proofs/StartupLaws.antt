@@ -52,11 +52,16 @@ scram_caused (Some e) = always e
 
 methods_caused : (input : Input) (methods : List (List ℕ)) → AreCaused (methods_refusal input methods)
 methods_caused input methods =
-    both_caused (unless_so (takes_method input methods) (client.UnsupportedSASLAuthMethods methods)) _ (so_caused (takes_method input methods) (client.UnsupportedSASLAuthMethods methods) (λ before now broken. tt))
-    (both_caused (unless_so (is_utf8 (password_of input)) (client.ScramError scram_fault.PasswordNotUtf8)) _ (so_caused (is_utf8 (password_of input)) (client.ScramError scram_fault.PasswordNotUtf8) (λ before now broken. tt))
+    both_caused (unless_so (takes_method input methods) (client.UnsupportedSASLAuthMethods methods)) _
+    (so_caused (takes_method input methods) (client.UnsupportedSASLAuthMethods methods)
+    (λ before now broken. tt))
+    (both_caused (unless_so (is_utf8 (password_of input)) (client.ScramError scram_fault.PasswordNotUtf8)) _
+    (so_caused (is_utf8 (password_of input)) (client.ScramError scram_fault.PasswordNotUtf8)
+    (λ before now broken. tt))
     (scram_caused (user_refusal (saslprep (user_of input)))))
 
-unless_caused : (o : Option ClientError) (stage : Stage) (reply : _) → AreCaused o → RefusesCaused (next_unless o (Goes stage reply))
+unless_caused : (o : Option ClientError) (stage : Stage) (reply : _) → AreCaused o
+    → RefusesCaused (next_unless o (Goes stage reply))
 unless_caused None stage reply caused = tt
 unless_caused (Some e) stage reply caused = caused
 
@@ -73,16 +78,24 @@ ok_caused : (b : Bool) → RefusesCaused (news_or (not b) Starting Wrong)
 ok_caused true = tt
 ok_caused false = tt
 
-table_caused : (input : Input) (stage : Stage) (request : Authentication) → RefusesCaused (table input stage (backend.Authentication request))
-table_caused input Starting (authentication.SASL methods) = unless_caused (methods_refusal input methods) (Challenged (scram_login input methods)) (Some (first_message (scram_login input methods))) (methods_caused input methods)
+table_caused : (input : Input) (stage : Stage) (request : Authentication)
+    → RefusesCaused (table input stage (backend.Authentication request))
+table_caused input Starting (authentication.SASL methods) =
+    unless_caused (methods_refusal input methods) (Challenged (scram_login input methods))
+    (Some (first_message (scram_login input methods))) (methods_caused input methods)
 table_caused input Starting authentication.Ok = ok_caused (must_bind input)
-table_caused input Starting authentication.CleartextPassword = unbound_caused (must_bind input) (Goes Admitted (Some (cleartext_message input))) tt
-table_caused input Starting (authentication.MD5Password salt) = unbound_caused (must_bind input) (Goes Admitted (Some (md5_message input salt))) tt
+table_caused input Starting authentication.CleartextPassword =
+    unbound_caused (must_bind input) (Goes Admitted (Some (cleartext_message input))) tt
+table_caused input Starting (authentication.MD5Password salt) =
+    unbound_caused (must_bind input) (Goes Admitted (Some (md5_message input salt))) tt
 table_caused input Starting request = tt
 table_caused input (Challenged login) (authentication.SASLContinue first) =
-    unless_caused (first_refusal login first) (Proving (expected_of login first)) (Some (final_message login first)) (scram_caused (scram_refusal.scram_first_refusal login.nonce first))
+    unless_caused (first_refusal login first) (Proving (expected_of login first))
+    (Some (final_message login first)) (scram_caused (scram_refusal.scram_first_refusal login.nonce first))
 table_caused input (Challenged login) request = tt
-table_caused input (Proving expected) (authentication.SASLFinal final) = unless_caused (final_refusal expected final) Admitted None (scram_caused (scram_refusal.scram_refusal expected final))
+table_caused input (Proving expected) (authentication.SASLFinal final) =
+    unless_caused (final_refusal expected final) Admitted None
+    (scram_caused (scram_refusal.scram_refusal expected final))
 table_caused input (Proving expected) request = tt
 table_caused input Admitted authentication.Ok = tt
 table_caused input Admitted request = tt
@@ -90,5 +103,6 @@ table_caused input (Answering kind rows) request = misplaced_caused (passes_over
 table_caused input PassingOver request = tt
 
 -- an authentication request is refused for a cause of its own
-pub next_caused : (input : Input) (stage : Stage) (request : Authentication) (n : Next) → n ≡ table input stage (backend.Authentication request) → RefusesCaused n
+pub next_caused : (input : Input) (stage : Stage) (request : Authentication) (n : Next)
+    → n ≡ table input stage (backend.Authentication request) → RefusesCaused n
 next_caused input stage request n is = subst RefusesCaused (sym is) (table_caused input stage request)

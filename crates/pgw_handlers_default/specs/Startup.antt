@@ -65,40 +65,60 @@ SendsReply (Some m) old new (Err e) = NotSent (encoding m) old new e
 
 -- A reply is sent and the stage is the next one; where it is not sent the handler stays as it is. What does not go on is
 -- refused.
-abbrev pub FollowsNext : Next → Backend → HandlerView DefaultStartupHandler → HandlerView DefaultStartupHandler → CallAnswer ServerInformation → Type 0
-FollowsNext (next.Goes stage reply) m before after (Ok answer) = (after.handler ≡ with_stage stage before.handler) × SendsReply reply before.sight after.sight (Ok tt) × (answer ≡ Pending)
-FollowsNext (next.Goes stage reply) m before after (Err e) = (after.handler ≡ before.handler) × SendsReply reply before.sight after.sight (Err e)
-FollowsNext (next.Refuses x) m before after answer = HandlerRefuses (λ e. e ≡ x) before after answer
+abbrev pub FollowsNext : Next → Backend → HandlerView DefaultStartupHandler
+    → HandlerView DefaultStartupHandler → CallAnswer ServerInformation → Type 0
+FollowsNext (next.Goes stage reply) m before after (Ok answer) =
+    (after.handler ≡ with_stage stage before.handler)
+    × SendsReply reply before.sight after.sight (Ok tt) × (answer ≡ Pending)
+FollowsNext (next.Goes stage reply) m before after (Err e) =
+    (after.handler ≡ before.handler) × SendsReply reply before.sight after.sight (Err e)
+FollowsNext (next.Refuses x) m before after answer =
+    HandlerRefuses (λ e. e ≡ x) before after answer
 FollowsNext other m before after answer = HandlerRefuses (IsUnexpected m) before after answer
 
 -- memory was wanting, and nothing is done
-abbrev pub Starves : HandlerView DefaultStartupHandler → HandlerView DefaultStartupHandler → CallAnswer ServerInformation → Type 0
+abbrev pub Starves : HandlerView DefaultStartupHandler → HandlerView DefaultStartupHandler
+    → CallAnswer ServerInformation → Type 0
 Starves before after answer = HandlerRefuses (λ e. e ≡ client.OutOfMemory) before after answer
 
-abbrev pub StartupLogsIn : Backend → HandlerView DefaultStartupHandler → HandlerView DefaultStartupHandler → CallAnswer ServerInformation → Type 0
+abbrev pub StartupLogsIn : Backend → HandlerView DefaultStartupHandler
+    → HandlerView DefaultStartupHandler → CallAnswer ServerInformation → Type 0
 StartupLogsIn m before after answer =
-    FollowsNext (table (login_input before.handler before.sight.client.config) before.handler.stage m) m before after answer ⊎ Starves before after answer
+    FollowsNext (table (login_input before.handler before.sight.client.config)
+    before.handler.stage m) m before after answer
+    ⊎ Starves before after answer
 
 -- ---- the others
 
 -- the startup message is sent, and a login begins anew
-abbrev pub BeginsStartup : HandlerView DefaultStartupHandler → HandlerView DefaultStartupHandler → CallAnswer ServerInformation → Type 0
+abbrev pub BeginsStartup : HandlerView DefaultStartupHandler → HandlerView DefaultStartupHandler
+    → CallAnswer ServerInformation → Type 0
 BeginsStartup before after (Ok answer) =
-    (after.handler ≡ fresh_startup before.handler) × Sent (encoding (startup_message (login_input before.handler before.sight.client.config))) before.sight after.sight × (answer ≡ Pending)
+    (after.handler ≡ fresh_startup before.handler)
+    × Sent (encoding (startup_message (login_input before.handler
+    before.sight.client.config))) before.sight after.sight
+    × (answer ≡ Pending)
 BeginsStartup before after (Err e) =
     (after.handler ≡ fresh_startup before.handler)
-    × (NotSent (encoding (startup_message (login_input before.handler before.sight.client.config))) before.sight after.sight e ⊎ ((after.sight ≡ before.sight) × (e ≡ client.OutOfMemory)))
+    × (NotSent (encoding (startup_message (login_input before.handler
+    before.sight.client.config))) before.sight after.sight e
+    ⊎ ((after.sight ≡ before.sight) × (e ≡ client.OutOfMemory)))
 
 -- the handler keeps the process number and the key
-abbrev pub KeepsKey : BackendKeyData → HandlerView DefaultStartupHandler → HandlerView DefaultStartupHandler → CallAnswer ServerInformation → Type 0
-KeepsKey m before after answer = (after ≡ standing (with_handler_key m before.handler) before.sight) × (answer ≡ Ok Pending)
+abbrev pub KeepsKey : BackendKeyData → HandlerView DefaultStartupHandler
+    → HandlerView DefaultStartupHandler → CallAnswer ServerInformation → Type 0
+KeepsKey m before after answer =
+    (after ≡ standing (with_handler_key m before.handler) before.sight) × (answer ≡ Ok Pending)
 
 -- the client's parameters, and the process number and key that came last
 abbrev pub information : DefaultStartupHandler → Client → ServerInformation
-information h c = record { parameters = c.parameters; process_id = h.process_id; secret_key = h.secret_key }
+information h c =
+    record { parameters = c.parameters; process_id = h.process_id; secret_key = h.secret_key }
 
-abbrev pub GivesInformation : HandlerView DefaultStartupHandler → HandlerView DefaultStartupHandler → CallAnswer ServerInformation → Type 0
-GivesInformation before after (Ok answer) = (after ≡ before) × (answer ≡ Ready (information before.handler before.sight.client))
+abbrev pub GivesInformation : HandlerView DefaultStartupHandler
+    → HandlerView DefaultStartupHandler → CallAnswer ServerInformation → Type 0
+GivesInformation before after (Ok answer) =
+    (after ≡ before) × (answer ≡ Ready (information before.handler before.sight.client))
 GivesInformation before after (Err e) = (after ≡ before) × (e ≡ client.OutOfMemory)
 
 -- the segment closes
@@ -107,37 +127,53 @@ closes next.Closes = true
 closes other = false
 
 -- where the table closes the segment the information is given, and else the message has no place
-abbrev pub Concludes : Bool → Backend → HandlerView DefaultStartupHandler → HandlerView DefaultStartupHandler → CallAnswer ServerInformation → Type 0
+abbrev pub Concludes : Bool → Backend → HandlerView DefaultStartupHandler
+    → HandlerView DefaultStartupHandler → CallAnswer ServerInformation → Type 0
 Concludes true m before after answer = GivesInformation before after answer
 Concludes false m before after answer = HandlerRefuses (IsUnexpected m) before after answer
 
-abbrev pub HandlerLetsIn : Backend → HandlerView DefaultStartupHandler → HandlerView DefaultStartupHandler → CallAnswer ServerInformation → Type 0
-HandlerLetsIn m before after answer = Concludes (closes (table (login_input before.handler before.sight.client.config) before.handler.stage m)) m before after answer
+abbrev pub HandlerLetsIn : Backend → HandlerView DefaultStartupHandler
+    → HandlerView DefaultStartupHandler → CallAnswer ServerInformation → Type 0
+HandlerLetsIn m before after answer =
+    Concludes (closes (table (login_input before.handler before.sight.client.config)
+    before.handler.stage m)) m before after answer
 
-abbrev pub StartupMeans : HandlerView DefaultStartupHandler → StartupCall → HandlerView DefaultStartupHandler → CallAnswer ServerInformation → Type 0
+abbrev pub StartupMeans : HandlerView DefaultStartupHandler → StartupCall
+    → HandlerView DefaultStartupHandler → CallAnswer ServerInformation → Type 0
 StartupMeans before startup after answer = BeginsStartup before after answer
-StartupMeans before (on_authentication m) after answer = StartupLogsIn (backend.Authentication m) before after answer
-StartupMeans before (on_negotiate_protocol_version m) after answer = SettlesVersion m before after answer
+StartupMeans before (on_authentication m) after answer =
+    StartupLogsIn (backend.Authentication m) before after answer
+StartupMeans before (on_negotiate_protocol_version m) after answer =
+    SettlesVersion m before after answer
 StartupMeans before (on_parameter_status m) after answer = KeepsParameter m before after answer
 StartupMeans before (on_notice m) after answer = HandlerStays before after answer
 StartupMeans before (on_notification m) after answer = HandlerMisplaces m before after answer
 StartupMeans before (on_backend_key m) after answer = KeepsKey m before after answer
-StartupMeans before (on_ready_for_query m) after answer = HandlerLetsIn (backend.ReadyForQuery m) before after answer
+StartupMeans before (on_ready_for_query m) after answer =
+    HandlerLetsIn (backend.ReadyForQuery m) before after answer
 
 -- ---- the trait's own bodies
 
-abbrev pub settles_version : (before after : HandlerView DefaultStartupHandler) → (m : NegotiateProtocolVersion) → (answer : CallAnswer ServerInformation) → SettlesVersion m before after answer → StartupMeans before (on_negotiate_protocol_version m) after answer
+abbrev pub settles_version : (before after : HandlerView DefaultStartupHandler)
+    → (m : NegotiateProtocolVersion) → (answer : CallAnswer ServerInformation)
+    → SettlesVersion m before after answer
+    → StartupMeans before (on_negotiate_protocol_version m) after answer
 settles_version before after m answer settled = settled
 
-abbrev pub keeps_in_startup : (before after : HandlerView DefaultStartupHandler) → (m : ParameterStatus) → (answer : CallAnswer ServerInformation) → KeepsParameter m before after answer → StartupMeans before (on_parameter_status m) after answer
+abbrev pub keeps_in_startup : (before after : HandlerView DefaultStartupHandler)
+    → (m : ParameterStatus) → (answer : CallAnswer ServerInformation)
+    → KeepsParameter m before after answer
+    → StartupMeans before (on_parameter_status m) after answer
 keeps_in_startup before after m answer kept = kept
 
-abbrev pub passes_notices : (before after : HandlerView DefaultStartupHandler) → (m : NoticeResponse) →
+abbrev pub passes_notices : (before after : HandlerView DefaultStartupHandler)
+    → (m : NoticeResponse) →
     (answer : CallAnswer ServerInformation) → HandlerStays before after answer →
     StartupMeans before (on_notice m) after answer
 passes_notices before after m answer passed = passed
 
 abbrev pub misplaces_notifications : (before after : HandlerView DefaultStartupHandler) →
-    (m : NotificationResponse) → (answer : CallAnswer ServerInformation) → HandlerMisplaces m before after answer →
+    (m : NotificationResponse) → (answer : CallAnswer ServerInformation)
+    → HandlerMisplaces m before after answer →
     StartupMeans before (on_notification m) after answer
 misplaces_notifications before after m answer refused = refused

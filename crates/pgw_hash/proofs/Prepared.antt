@@ -30,7 +30,8 @@ mapped = Stepped-at_values compatibility_decomposition compatibility_decompositi
 
 mapping : (p : ℕ) → is_empty (if_canonical (decomposition p)) ≡ false → scalar p ≡ true
 unfolding tables points_ok decomposition_stepped
-mapping = Stepped-at_points decomposition decomposition_stepped (λ e. is_empty (if_canonical e)) (λ p e. scalar p) refl
+mapping =
+    Stepped-at_points decomposition decomposition_stepped (λ e. is_empty (if_canonical e)) (λ p e. scalar p) refl
 
 -- ---- a decomposition
 
@@ -66,7 +67,8 @@ decomposes c one = elim (cases_Bool (is_syllable c)) [
 -- ---- a composite
 
 composes_hangul : (a b p : ℕ) → IsLv a b p ⊎ IsLvt a b p → scalar p ≡ true
-composes_hangul a b p (inl h) = low_scalar p (omega (arith, h.leading.0, h.leading.1, h.vowel.0, h.vowel.1, h.value))
+composes_hangul a b p (inl h) =
+    low_scalar p (omega (arith, h.leading.0, h.leading.1, h.vowel.0, h.vowel.1, h.value))
 composes_hangul a b p (inr h) = low_scalar p (omega
     (arith, h.syllable.0, h.syllable.1, h.trailing.0, h.trailing.1, h.value))
 
@@ -75,7 +77,8 @@ by_table a b p is =
     let of = composite-IsCompositeOf a b p is in
     mapping p (ap is_empty of.mapping)
 
-either_way : (a b p : ℕ) (o : Option ℕ) → compose_hangul a b ≡ o → or_else o (composite a b) ≡ Some p → scalar p ≡ true
+either_way : (a b p : ℕ) (o : Option ℕ) → compose_hangul a b ≡ o → or_else o (composite a b) ≡ Some p
+    → scalar p ≡ true
 either_way a b p None none is = by_table a b p is
 either_way a b p (Some q) some is = let same : q ≡ p = cc in composes_hangul a b p
     (compose_hangul-some a b p (some ∙ ap (λ (n : ℕ). Some n) same))
@@ -91,7 +94,8 @@ all_of [] = refl
 all_of (c ∷ cs) = ap (λ (b : Bool). scalar c && b) (all_of cs)
 
 pub normalized : (cs : List ℕ) → scalars cs ≡ true → scalars (nfkc cs) ≡ true
-normalized cs all = all_of (nfkc cs) ∙ list_all-normalize Nfkc scalar decomposes composes cs (sym (all_of cs) ∙ all)
+normalized cs all =
+    all_of (nfkc cs) ∙ list_all-normalize Nfkc scalar decomposes composes cs (sym (all_of cs) ∙ all)
 
 form_of : (b : Bool) (cs form : List ℕ) → scalars cs ≡ true
     → (if b then None else Some (encode_utf8_all cs)) ≡ Some form → IsUtf8 form

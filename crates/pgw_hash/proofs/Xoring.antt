@@ -4,7 +4,10 @@ use Rattle.std.proofs.lemmas.List.{take_more_set, drop-set-lt, drop_all, take_al
 use Rattle.pgw_hash.specs.Xor.{xor}
 
 -- one octet more
-pub xor_more : (xs ys : List ℕ) (i : ℕ) → i < length xs → length xs ≡ length ys → take (i + 1) (set xs i (bit_xor (get_or xs i 0) (get_or ys i 0))) ++ xor (drop (i + 1) (set xs i (bit_xor (get_or xs i 0) (get_or ys i 0)))) (drop (i + 1) ys) ≡ take i xs ++ xor (drop i xs) (drop i ys)
+pub xor_more : (xs ys : List ℕ) (i : ℕ) → i < length xs → length xs ≡ length ys
+    → take (i + 1) (set xs i (bit_xor (get_or xs i 0) (get_or ys i 0))) ++ xor
+    (drop (i + 1) (set xs i (bit_xor (get_or xs i 0) (get_or ys i 0)))) (drop (i + 1) ys) ≡ take i xs ++ xor
+    (drop i xs) (drop i ys)
 unfolding xor
 xor_more xs ys i below same =
     let b : ℕ = bit_xor (get_or xs i 0) (get_or ys i 0) in
@@ -16,6 +19,7 @@ xor_more xs ys i below same =
     rw (left, right, x, y) (append_assoc (take i xs) (b ∷ []) (xor (drop (i + 1) xs) (drop (i + 1) ys)))
 
 -- all octets done
-pub xor_done : (xs ys done : List ℕ) (n : ℕ) → length xs ≤ n → take n xs ++ xor (drop n xs) (drop n ys) ≡ done → xs ≡ done
+pub xor_done : (xs ys done : List ℕ) (n : ℕ) → length xs ≤ n → take n xs ++ xor (drop n xs) (drop n ys) ≡ done
+    → xs ≡ done
 unfolding xor
 xor_done xs ys done n past h = rw (take_all n xs past, drop_all n xs past, append-nil xs) at h

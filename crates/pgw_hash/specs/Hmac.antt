@@ -25,4 +25,5 @@ opad = replicate 64 0x5C
 
 -- H(K XOR opad, H(K XOR ipad, text)) (2)
 unfoldable pub hmac_sha256 : List ℕ → List ℕ → List ℕ
-hmac_sha256 key text = sha256 (xor (block_key key) opad ++ sha256 (xor (block_key key) ipad ++ text))
+hmac_sha256 key text =
+    sha256 (xor (block_key key) opad ++ sha256 (xor (block_key key) ipad ++ text))

@@ -9,4 +9,5 @@ md5_hex message = encode_lower (md5 message)
 
 -- concat('md5', md5(concat(md5(concat(password, username)), random-salt)))
 unfoldable pub md5_password : List ℕ → List ℕ → List ℕ → List ℕ
-md5_password username password salt = codes "md5" ++ md5_hex (md5_hex (password ++ username) ++ salt)
+md5_password username password salt =
+    codes "md5" ++ md5_hex (md5_hex (password ++ username) ++ salt)

@@ -23,4 +23,5 @@ abbrev pub faults_of : MemoryLink → ℕ
 faults_of m = m.reads.failed + m.writes.failed + m.wanting
 
 abbrev pub making_of : MemoryLink → Making
-making_of m = record { server = m.server; cut = m.cut; reads = m.reads.numbers; writes = m.writes.numbers }
+making_of m =
+    record { server = m.server; cut = m.cut; reads = m.reads.numbers; writes = m.writes.numbers }

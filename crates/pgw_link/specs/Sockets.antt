@@ -13,6 +13,7 @@ abbrev pub socket_faults : ClientSocket → ℕ
 socket_faults (socket.Plain link) = link.faults
 socket_faults (socket.Unix link) = link.faults
 
-abbrev pub socket_flushed_in : (s : ClientSocket) → (socket_tape s).flushed ≤ length (socket_tape s).wrote
+abbrev pub socket_flushed_in : (s : ClientSocket)
+    → (socket_tape s).flushed ≤ length (socket_tape s).wrote
 socket_flushed_in (socket.Plain link) = link.flushed_in
 socket_flushed_in (socket.Unix link) = link.flushed_in

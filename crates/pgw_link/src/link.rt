@@ -52,7 +52,8 @@ pub trait Link: Drop {
         ensures some { IfOk result (λ n. 0 < n) }
         ensures bound { IfOk result (λ n. n ≤ length piece.now) }
         ensures moved { IfOk result (λ n. Put (tape self.old) (tape self.new) (take n piece.now)) }
-        ensures failed { OnErr result (LinkFails (tape self.old) (tape self.new) (tape self.old).reads
+        ensures failed { OnErr result (LinkFails (tape self.old) (tape self.new)
+            (tape self.old).reads
             ((tape self.old).writes + 1)) }
         ensures poured { WriteAppends (held self.old) (held self.new) result piece.now }
         ensures left { foretells → Keeps (left self.old) (left self.new) }
@@ -63,7 +64,8 @@ pub trait Link: Drop {
     /// Makes sure that what was written is on its way.
     fn flush(&mut self) -> Result<(), LinkFault>
         ensures done { OnOk result (Flushed (tape self.old) (tape self.new)) }
-        ensures failed { OnErr result (LinkFails (tape self.old) (tape self.new) (tape self.old).reads
+        ensures failed { OnErr result (LinkFails (tape self.old) (tape self.new)
+            (tape self.old).reads
             (tape self.old).writes) }
         ensures held { Keeps (held self.old) (held self.new) }
         ensures left { foretells → Keeps (left self.old) (left self.new) }

@@ -29,36 +29,49 @@ Act = Standing → Standing → List Message → Answer → Type 0
 -- ---- acts one after the other
 
 -- one act and then the next, unless the first is refused
-pub data Then (first next : Standing → Standing → List Message → Answer → Type 0) : Standing → Standing → List Message → Answer → Type 0 where
-  halts : (before after : Standing) → (sent : List Message) → (e : PgWireError) → first before after sent (Err e) → Then first next before after sent (Err e)
-  goes : (before mid after : Standing) → (front back : List Message) → (answer : Answer) → first before mid front (Ok tt) → next mid after back answer → Then first next before after (front ++ back) answer
+pub data Then (first next : Standing → Standing → List Message → Answer → Type 0) : Standing
+    → Standing → List Message → Answer → Type 0 where
+  halts : (before after : Standing) → (sent : List Message) → (e : PgWireError)
+      → first before after sent (Err e) → Then first next before after sent (Err e)
+  goes : (before mid after : Standing) → (front back : List Message) → (answer : Answer)
+      → first before mid front (Ok tt) → next mid after back answer
+      → Then first next before after (front ++ back) answer
 
 -- or memory runs out, and nothing is done
 abbrev pub LoginRefuses : PgWireError → Standing → Standing → List Message → Answer → Type 0
 LoginRefuses e before after sent answer = (after ≡ before) × (sent ≡ []) × (answer ≡ Err e)
 
 abbrev pub OrNoMemory : Act → Standing → Standing → List Message → Answer → Type 0
-OrNoMemory act before after sent answer = LoginRefuses OutOfMemory before after sent answer ⊎ act before after sent answer
+OrNoMemory act before after sent answer =
+    LoginRefuses OutOfMemory before after sent answer ⊎ act before after sent answer
 
 -- nothing is done
 abbrev pub LoginStays : Standing → Standing → List Message → Answer → Type 0
 LoginStays before after sent answer = (after ≡ before) × (sent ≡ []) × (answer ≡ Ok tt)
 
 -- nothing is sent or changed, and the answer is one of these
-abbrev pub AnswersLogin : (Standing → Answer → Type 0) → Standing → Standing → List Message → Answer → Type 0
+abbrev pub AnswersLogin : (Standing → Answer → Type 0) → Standing → Standing → List Message
+    → Answer → Type 0
 AnswersLogin P before after sent answer = (after ≡ before) × (sent ≡ []) × P before answer
 
 -- the client, or the login, is changed
-abbrev pub Sets : (LoginClient → LoginClient) → Standing → Standing → List Message → Answer → Type 0
-Sets f before after sent answer = (after ≡ record before { client = f before.client }) × (sent ≡ []) × (answer ≡ Ok tt)
+abbrev pub Sets : (LoginClient → LoginClient) → Standing → Standing → List Message → Answer
+    → Type 0
+Sets f before after sent answer =
+    (after ≡ record before { client = f before.client }) × (sent ≡ []) × (answer ≡ Ok tt)
 
-abbrev pub Marks : (LoginState → LoginState) → Standing → Standing → List Message → Answer → Type 0
-Marks f before after sent answer = (after ≡ record before { login = f before.login }) × (sent ≡ []) × (answer ≡ Ok tt)
+abbrev pub Marks : (LoginState → LoginState) → Standing → Standing → List Message → Answer
+    → Type 0
+Marks f before after sent answer =
+    (after ≡ record before { login = f before.login }) × (sent ≡ []) × (answer ≡ Ok tt)
 
 -- the messages are sent, up to one that is not taken
 abbrev pub Sends : List Message → Standing → Standing → List Message → Answer → Type 0
 Sends due before after sent (Ok done) = (after ≡ before) × (sent ≡ due)
-Sends due before after sent (Err e) = (m : Message) × (rest : List Message) × (due ≡ sent ++ m ∷ rest) × (after ≡ record before { faults = after.faults }) × NotTaken m before.faults after.faults e
+Sends due before after sent (Err e) =
+    (m : Message) × (rest : List Message) × (due ≡ sent ++ m ∷ rest)
+    × (after ≡ record before { faults = after.faults })
+    × NotTaken m before.faults after.faults e
 
 -- ---- the state of a login
 
@@ -78,7 +91,8 @@ login_by_answer (Err e) s = with_sasl Failed s
 
 abbrev pub OrFails : Act → Standing → Standing → List Message → Answer → Type 0
 OrFails act before after sent (Ok done) = act before after sent (Ok done)
-OrFails act before after sent (Err e) = (mid : Standing) × act before mid sent (Err e) × (after ≡ failed mid)
+OrFails act before after sent (Err e) =
+    (mid : Standing) × act before mid sent (Err e) × (after ≡ failed mid)
 
 abbrev pub is_initial : SASLState → Bool
 is_initial Initial = true
@@ -115,7 +129,8 @@ LoginAwaits before = AwaitsAt (awaits before.login) before
 
 -- what a login may draw from, and what it has registered, is as before
 abbrev pub IsSameSource : LoginState → LoginState → Type 0
-IsSameSource old new = (new.seat ≡ old.seat) × (new.pass ≡ old.pass) × (new.registered ≡ old.registered)
+IsSameSource old new =
+    (new.seat ≡ old.seat) × (new.pass ≡ old.pass) × (new.registered ≡ old.registered)
 
 -- what a login has registered can be released by its pass
 abbrev pub IsReleasable : LoginState → Type 0
@@ -124,7 +139,9 @@ IsReleasable s = CanRelease (guard_of s.registered) s.pass
 -- ---- what an outbox is told
 
 -- the act was done, with the messages that it sends taken one after the other; the count of faults never falls
-pub record Did {S : Type 0} (add : S → Message → S) (old new : S) (act : Standing → Standing → List Message → Answer → Type 0) (before after : Standing) (answer : Answer) : Type 0 where
+pub record Did {S : Type 0} (add : S → Message → S) (old new : S)
+    (act : Standing → Standing → List Message → Answer → Type 0) (before after : Standing)
+    (answer : Answer) : Type 0 where
   pub sent : List Message
   pub told : new ≡ fold add old sent
   pub later : before.faults ≤ after.faults

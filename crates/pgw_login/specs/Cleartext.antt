@@ -39,21 +39,35 @@ abbrev pub ComparedTo : List ℕ → Login → Result Kept PgWireError → Answe
 ComparedTo text login (Err e) answer = answer ≡ Err e
 ComparedTo text login (Ok kept) answer = answer ≡ compared text login kept.password
 
-abbrev pub CheckedBy : (Login → Result Kept PgWireError → Type 0) → Result Password PgWireError → Login → Answer → Type 0
+abbrev pub CheckedBy : (Login → Result Kept PgWireError → Type 0) → Result Password PgWireError
+    → Login → Answer → Type 0
 CheckedBy A (Err e) login answer = answer ≡ Err e
-CheckedBy A (Ok m) login answer = (given : Result Kept PgWireError) × A login given × ComparedTo m.password login given answer
+CheckedBy A (Ok m) login answer =
+    (given : Result Kept PgWireError) × A login given × ComparedTo m.password login given answer
 
 -- the message is read as a password, and the source is asked for the login; or memory runs out
-abbrev pub ChecksPassword : (Login → Result Kept PgWireError → Type 0) → PasswordMessageFamily → Login → Answer → Type 0
-ChecksPassword A message login answer = (answer ≡ Err OutOfMemory) ⊎ CheckedBy A (as_password message) login answer
+abbrev pub ChecksPassword : (Login → Result Kept PgWireError → Type 0) → PasswordMessageFamily
+    → Login → Answer → Type 0
+ChecksPassword A message login answer =
+    (answer ≡ Err OutOfMemory) ⊎ CheckedBy A (as_password message) login answer
 
-abbrev pub Checks : (Login → Result Kept PgWireError → Type 0) → PasswordMessageFamily → Standing → Standing → List Message → Answer → Type 0
-Checks A message = AnswersLogin (λ before answer. ChecksPassword A message (login_seen before.client) answer)
+abbrev pub Checks : (Login → Result Kept PgWireError → Type 0) → PasswordMessageFamily → Standing
+    → Standing → List Message → Answer → Type 0
+Checks A message =
+    AnswersLogin (λ before answer. ChecksPassword A message (login_seen before.client) answer)
 
-abbrev pub CleartextOn : (Login → Result Kept PgWireError → Type 0) → (LoginClient → Option Held → Type 0) → (Option Known → ℤ → SecretKey → Option Known → Result (Option HandlePair) RegistryError → Type 0) → Heard → Standing → Standing → List Message → Answer → Type 0
+abbrev pub CleartextOn : (Login → Result Kept PgWireError → Type 0)
+    → (LoginClient → Option Held → Type 0)
+    → (Option Known → ℤ → SecretKey → Option Known → Result (Option HandlePair) RegistryError →
+    Type 0)
+    → Heard → Standing → Standing → List Message → Answer → Type 0
 CleartextOn A P R (of.Startup s) = Then (Opens s) (Sends (cleartext_request ∷ []))
 CleartextOn A P R (of.Password m) = Then LoginAwaits (Then (Checks A m) (Finishes P R))
 CleartextOn A P R of.Other = LoginStays
 
-abbrev pub CleartextMeans : (Login → Result Kept PgWireError → Type 0) → (LoginClient → Option Held → Type 0) → (Option Known → ℤ → SecretKey → Option Known → Result (Option HandlePair) RegistryError → Type 0) → PgWireFrontendMessage → Standing → Standing → List Message → Answer → Type 0
+abbrev pub CleartextMeans : (Login → Result Kept PgWireError → Type 0)
+    → (LoginClient → Option Held → Type 0)
+    → (Option Known → ℤ → SecretKey → Option Known → Result (Option HandlePair) RegistryError →
+    Type 0)
+    → PgWireFrontendMessage → Standing → Standing → List Message → Answer → Type 0
 CleartextMeans A P R m = OrFails (CleartextOn A P R (heard m))

@@ -10,4 +10,10 @@ pub record Login : Type 0 where
 
 -- as the client's parameters name it
 abbrev pub login_seen : LoginClient → Login
-login_seen c = record { user = map.get c.metadata (codes "user"); database = map.get c.metadata (codes "database"); host = c.host }
+login_seen c =
+    record {
+      user = map.get c.metadata (codes "user");
+      database = map.get c.metadata
+          (codes "database");
+      host = c.host;
+    }

@@ -4,4 +4,5 @@ use Rattle.pgw_login.specs.Login.{Login}
 use Rattle.pgw_login.specs.declared.source.LoginInfo.{LoginInfo}
 
 abbrev pub login_of : LoginInfo → Login
-login_of l = record { user = option_copied l.user; database = option_copied l.database; host = l.host.now }
+login_of l =
+    record { user = option_copied l.user; database = option_copied l.database; host = l.host.now }

@@ -39,19 +39,27 @@ kept_salt (Err e) = Err e
 kept_salt (Ok kept) = md5_with_salt kept.salt kept.password
 
 -- the source is asked for the login; or memory runs out
-abbrev pub AsksForSalt : (Login → Result Kept PgWireError → Type 0) → Login → Result (List ℕ × List ℕ) PgWireError → Type 0
-AsksForSalt A login answer = (answer ≡ Err OutOfMemory) ⊎ ((given : Result Kept PgWireError) × A login given × (answer ≡ kept_salt given))
+abbrev pub AsksForSalt : (Login → Result Kept PgWireError → Type 0) → Login
+    → Result (List ℕ × List ℕ) PgWireError → Type 0
+AsksForSalt A login answer =
+    (answer ≡ Err OutOfMemory)
+    ⊎ ((given : Result Kept PgWireError) × A login given × (answer ≡ kept_salt given))
 
 abbrev pub with_kept : List ℕ → LoginState → LoginState
 with_kept text s = record s { kept = Some text }
 
-abbrev pub ChallengedBy : Result (List ℕ × List ℕ) PgWireError → Standing → Standing → List Message → Answer → Type 0
+abbrev pub ChallengedBy : Result (List ℕ × List ℕ) PgWireError → Standing → Standing
+    → List Message → Answer → Type 0
 ChallengedBy (Err e) = LoginRefuses e
 ChallengedBy (Ok (salt, text)) = Then (Marks (with_kept text)) (Sends (md5_request salt ∷ []))
 
 -- the text is kept, and the salt is sent
-abbrev pub Challenges : (Login → Result Kept PgWireError → Type 0) → Standing → Standing → List Message → Answer → Type 0
-Challenges A before after sent answer = (salted : Result (List ℕ × List ℕ) PgWireError) × AsksForSalt A (login_seen before.client) salted × ChallengedBy salted before after sent answer
+abbrev pub Challenges : (Login → Result Kept PgWireError → Type 0) → Standing → Standing
+    → List Message → Answer → Type 0
+Challenges A before after sent answer =
+    (salted : Result (List ℕ × List ℕ) PgWireError)
+    × AsksForSalt A (login_seen before.client) salted
+    × ChallengedBy salted before after sent answer
 
 abbrev pub MatchedTo : List ℕ → Option (List ℕ) → Login → Answer → Type 0
 MatchedTo text None login answer = answer ≡ Err InvalidSASLState
@@ -63,15 +71,26 @@ MatchedBy (Ok m) kept login answer = MatchedTo m.password kept login answer
 
 -- the message is read as a password, which is the text that is kept; or memory runs out
 abbrev pub Matched : PasswordMessageFamily → Option (List ℕ) → Login → Answer → Type 0
-Matched message kept login answer = (answer ≡ Err OutOfMemory) ⊎ MatchedBy (as_password message) kept login answer
+Matched message kept login answer =
+    (answer ≡ Err OutOfMemory) ⊎ MatchedBy (as_password message) kept login answer
 
 abbrev pub Matches : PasswordMessageFamily → Standing → Standing → List Message → Answer → Type 0
-Matches message = AnswersLogin (λ before answer. Matched message before.login.kept (login_seen before.client) answer)
+Matches message =
+    AnswersLogin (λ before answer. Matched message before.login.kept (login_seen before.client)
+    answer)
 
-abbrev pub Md5On : (Login → Result Kept PgWireError → Type 0) → (LoginClient → Option Held → Type 0) → (Option Known → ℤ → SecretKey → Option Known → Result (Option HandlePair) RegistryError → Type 0) → Heard → Standing → Standing → List Message → Answer → Type 0
+abbrev pub Md5On : (Login → Result Kept PgWireError → Type 0)
+    → (LoginClient → Option Held → Type 0)
+    → (Option Known → ℤ → SecretKey → Option Known → Result (Option HandlePair) RegistryError →
+    Type 0)
+    → Heard → Standing → Standing → List Message → Answer → Type 0
 Md5On A P R (of.Startup s) = Then (Opens s) (Challenges A)
 Md5On A P R (of.Password m) = Then LoginAwaits (Then (Matches m) (Finishes P R))
 Md5On A P R of.Other = LoginStays
 
-abbrev pub Md5Means : (Login → Result Kept PgWireError → Type 0) → (LoginClient → Option Held → Type 0) → (Option Known → ℤ → SecretKey → Option Known → Result (Option HandlePair) RegistryError → Type 0) → PgWireFrontendMessage → Standing → Standing → List Message → Answer → Type 0
+abbrev pub Md5Means : (Login → Result Kept PgWireError → Type 0)
+    → (LoginClient → Option Held → Type 0)
+    → (Option Known → ℤ → SecretKey → Option Known → Result (Option HandlePair) RegistryError →
+    Type 0)
+    → PgWireFrontendMessage → Standing → Standing → List Message → Answer → Type 0
 Md5Means A P R m = OrFails (Md5On A P R (heard m))

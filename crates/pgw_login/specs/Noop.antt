@@ -20,18 +20,33 @@ use Rattle.pgw_login.specs.declared.handler.Heard.{Heard}
 use Rattle.pgw_login.specs.declared.handler.Heard.TheVariants as of
 use Rattle.pgw_login.specs.declared.state.SASLState.TheVariants.{Finished}
 
-abbrev pub IntroducesBy : DefaultServerParameterProvider → Standing → Standing → List Message → Answer → Type 0
+abbrev pub IntroducesBy : DefaultServerParameterProvider → Standing → Standing → List Message
+    → Answer → Type 0
 IntroducesBy p = Introduces (λ c o. o ≡ Some (default_parameters p c))
 
 -- the login is accepted at once, and something is done before the client may ask
-abbrev pub Welcomes : (PgWireFrontendMessage → Standing → Standing → List Message → Answer → Type 0) → (Option Known → ℤ → SecretKey → Option Known → Result (Option HandlePair) RegistryError → Type 0) → Startup → Standing → Standing → List Message → Answer → Type 0
-Welcomes posts R s = Then (BeginsLogin s) (Then (AcceptsLogin R) (Then (IntroducesBy default_provider) (Then (posts (frontend.Startup s)) (Then (Readies login_ready) (Marks (with_sasl Finished))))))
+abbrev pub Welcomes :
+    (PgWireFrontendMessage → Standing → Standing → List Message → Answer → Type 0)
+    → (Option Known → ℤ → SecretKey → Option Known → Result (Option HandlePair) RegistryError →
+    Type 0)
+    → Startup → Standing → Standing → List Message → Answer → Type 0
+Welcomes posts R s =
+    Then (BeginsLogin s) (Then (AcceptsLogin R)
+    (Then (IntroducesBy default_provider) (Then (posts (frontend.Startup s))
+    (Then (Readies login_ready) (Marks (with_sasl Finished))))))
 
 -- a password is passed over
-abbrev pub NoopOn : (PgWireFrontendMessage → Standing → Standing → List Message → Answer → Type 0) → (Option Known → ℤ → SecretKey → Option Known → Result (Option HandlePair) RegistryError → Type 0) → Heard → Standing → Standing → List Message → Answer → Type 0
+abbrev pub NoopOn : (PgWireFrontendMessage → Standing → Standing → List Message → Answer → Type 0)
+    → (Option Known → ℤ → SecretKey → Option Known → Result (Option HandlePair) RegistryError →
+    Type 0)
+    → Heard → Standing → Standing → List Message → Answer → Type 0
 NoopOn posts R (of.Startup s) = Welcomes posts R s
 NoopOn posts R (of.Password m) = LoginStays
 NoopOn posts R of.Other = LoginStays
 
-abbrev pub NoopMeans : (PgWireFrontendMessage → Standing → Standing → List Message → Answer → Type 0) → (Option Known → ℤ → SecretKey → Option Known → Result (Option HandlePair) RegistryError → Type 0) → PgWireFrontendMessage → Standing → Standing → List Message → Answer → Type 0
+abbrev pub NoopMeans :
+    (PgWireFrontendMessage → Standing → Standing → List Message → Answer → Type 0)
+    → (Option Known → ℤ → SecretKey → Option Known → Result (Option HandlePair) RegistryError →
+    Type 0)
+    → PgWireFrontendMessage → Standing → Standing → List Message → Answer → Type 0
 NoopMeans posts R m = OrFails (NoopOn posts R (heard m))

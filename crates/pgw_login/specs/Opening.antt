@@ -15,22 +15,30 @@ use Rattle.pgw_login.specs.declared.client_info.PgWireConnectionState.TheVariant
 
 -- 196610 is version 3.2, and there are no options that the server does not know
 abbrev pub offer : Message
-offer = backend.NegotiateProtocolVersion (record { newest_minor_protocol = pos 196610; unsupported_options = [] })
+offer =
+    backend.NegotiateProtocolVersion
+    (record { newest_minor_protocol = pos 196610; unsupported_options = [] })
 
 -- the version for a minor one of 3, and what the client is told where it is another
 abbrev pub by_minor : ℕ → ProtocolVersion × Option Message
-by_minor minor = if minor == 0 then (PROTOCOL3_0, None) else (if minor == 2 then (PROTOCOL3_2, None) else (PROTOCOL3_2, Some offer))
+by_minor minor =
+    if minor == 0 then (PROTOCOL3_0, None) else
+    (if minor == 2 then (PROTOCOL3_2, None) else (PROTOCOL3_2, Some offer))
 
 abbrev pub negotiation : Startup → Result (ProtocolVersion × Option Message) PgWireError
-negotiation s = if s.protocol_number_major == 3 then Ok (by_minor s.protocol_number_minor) else Err (UnsupportedProtocolVersion s.protocol_number_major s.protocol_number_minor)
+negotiation s =
+    if s.protocol_number_major == 3 then Ok (by_minor s.protocol_number_minor) else Err
+    (UnsupportedProtocolVersion s.protocol_number_major s.protocol_number_minor)
 
 abbrev pub offered_messages : Option Message → List Message
 offered_messages None = []
 offered_messages (Some m) = m ∷ []
 
-abbrev pub LoginSettlesVersion : Result (ProtocolVersion × Option Message) PgWireError → Standing → Standing → List Message → Answer → Type 0
+abbrev pub LoginSettlesVersion : Result (ProtocolVersion × Option Message) PgWireError → Standing
+    → Standing → List Message → Answer → Type 0
 LoginSettlesVersion (Err e) = LoginRefuses e
-LoginSettlesVersion (Ok (version, offered)) = Then (Sends (offered_messages offered)) (Sets (with_version version))
+LoginSettlesVersion (Ok (version, offered)) =
+    Then (Sends (offered_messages offered)) (Sets (with_version version))
 
 -- the client is told where the version is another than it asked for, and the version is set
 abbrev pub Negotiates : Startup → Standing → Standing → List Message → Answer → Type 0

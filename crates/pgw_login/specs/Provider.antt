@@ -30,7 +30,8 @@ abbrev pub with_server : Provider → Held → Held
 with_server p held =
     map.insert (with_switch (codes "in_hot_standby") p.in_hot_standby
     (with_switch (codes "integer_datetimes") p.integer_datetimes
-    (map.insert (map.insert held (codes "server_version") p.server_version) (codes "server_encoding") p.server_encoding)))
+    (map.insert (map.insert held (codes "server_version") p.server_version)
+    (codes "server_encoding") p.server_encoding)))
     (codes "scram_iterations") (decimal p.scram_iterations)
 
 abbrev pub with_session : Provider → Held → Held
@@ -40,14 +41,18 @@ with_session p held =
     (with_switch (codes "default_transaction_read_only") p.default_transaction_read_only
     (with_switch (codes "is_superuser") p.is_superuser
     (map.insert held (codes "search_path") p.search_path)))
-    (codes "TimeZone") p.time_zone) (codes "DateStyle") p.date_style) (codes "IntervalStyle") p.interval_style)
+    (codes "TimeZone") p.time_zone) (codes "DateStyle") p.date_style) (codes "IntervalStyle")
+    p.interval_style)
 
 -- what is not set is the client's own
 abbrev pub with_client : Provider → Held → Held → Held
 with_client p metadata held =
-    with_given (codes "session_authorization") (parameter_or_own p.session_authorization (map.get metadata (codes "user")))
-    (with_given (codes "application_name") (parameter_or_own p.application_name (map.get metadata (codes "application_name")))
-    (with_given (codes "client_encoding") (parameter_or_own p.client_encoding (map.get metadata (codes "client_encoding"))) held))
+    with_given (codes "session_authorization")
+    (parameter_or_own p.session_authorization (map.get metadata (codes "user")))
+    (with_given (codes "application_name")
+    (parameter_or_own p.application_name (map.get metadata (codes "application_name")))
+    (with_given (codes "client_encoding")
+    (parameter_or_own p.client_encoding (map.get metadata (codes "client_encoding"))) held))
 
 abbrev pub default_parameters : Provider → LoginClient → Held
 default_parameters p c = with_client p c.metadata (with_session p (with_server p map.empty))

@@ -40,7 +40,8 @@ CanBe after (Err Exhausted) = IsPassFull after
 CanBe after (Err OutOfMemory) = Unit {0}
 
 -- no connection is registered
-abbrev pub NotRegistered : Option Known → Option Known → Result (Option HandlePair) RegistryError → Type 0
+abbrev pub NotRegistered : Option Known → Option Known → Result (Option HandlePair) RegistryError
+    → Type 0
 NotRegistered before after answer = (after ≡ before) × (answer ≡ Ok None)
 
 -- the pass is one of this manager
@@ -49,12 +50,17 @@ IsOf manager None = Unit {0}
 IsOf manager (Some v) = v.of ≡ manager
 
 -- the manager's answer to its call
-abbrev pub RegisteredBy : TableId → Known → ℤ → SecretKey → Known → Result (Option HandlePair) RegistryError → Type 0
+abbrev pub RegisteredBy : TableId → Known → ℤ → SecretKey → Known
+    → Result (Option HandlePair) RegistryError → Type 0
 RegisteredBy manager v pid key w (Ok None) = ⊥
-RegisteredBy manager v pid key w (Ok (Some p)) = Makes (Register pid (key_bytes key)) (Handled p.0.number) v w × (p.1.pid ≡ pid) × (p.1.key ≡ key_bytes key) × (arc_value p.1.manager ≡ manager)
+RegisteredBy manager v pid key w (Ok (Some p)) =
+    Makes (Register pid (key_bytes key)) (Handled p.0.number) v w × (p.1.pid ≡ pid)
+    × (p.1.key ≡ key_bytes key) × (arc_value p.1.manager ≡ manager)
 RegisteredBy manager v pid key w (Err e) = PassCannotGrow e v w ⊎ ((e ≡ OutOfMemory) × (w ≡ v))
 
 -- the manager's call is made where there is a pass
-abbrev pub RegisteredAt : TableId → Option Known → ℤ → SecretKey → Option Known → Result (Option HandlePair) RegistryError → Type 0
+abbrev pub RegisteredAt : TableId → Option Known → ℤ → SecretKey → Option Known
+    → Result (Option HandlePair) RegistryError → Type 0
 RegisteredAt manager None pid key after answer = NotRegistered None after answer
-RegisteredAt manager (Some v) pid key after answer = (w : Known) × (after ≡ Some w) × RegisteredBy manager v pid key w answer
+RegisteredAt manager (Some v) pid key after answer =
+    (w : Known) × (after ≡ Some w) × RegisteredBy manager v pid key w answer

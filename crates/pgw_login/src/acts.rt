@@ -12,7 +12,8 @@ use pgw_types::error::PgWireResult;
 pub fn feed_all<O: Outbox>(out: &mut O, messages: Vec<PgWireBackendMessage>) -> PgWireResult<()>
     ensures { (client : LoginClient) (login : TheState) →
         Did O.add (O.sent out.old) (O.sent out.new) (Sends messages.items)
-        (standing_in_login client login (O.faults out.old)) (standing_in_login client login (O.faults out.new))
+        (standing_in_login client login (O.faults out.old))
+        (standing_in_login client login (O.faults out.new))
         result }
 {
     for message in messages {
@@ -25,7 +26,8 @@ pub fn feed_all<O: Outbox>(out: &mut O, messages: Vec<PgWireBackendMessage>) -> 
 pub fn send<O: Outbox>(out: &mut O, message: PgWireBackendMessage) -> PgWireResult<()>
     ensures sent { (client : LoginClient) (login : TheState) →
         Did O.add (O.sent out.old) (O.sent out.new) (Sends (message ∷ []))
-        (standing_in_login client login (O.faults out.old)) (standing_in_login client login (O.faults out.new))
+        (standing_in_login client login (O.faults out.old))
+        (standing_in_login client login (O.faults out.new))
         result }
     ensures flushed { OnOk result (O.waiting out.new ≡ 0) }
 {

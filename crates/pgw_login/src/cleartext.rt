@@ -84,7 +84,8 @@ where
         login: &LoginInfo<'_>,
         message: PasswordMessageFamily,
     ) -> PgWireResult<()>
-        ensures { ChecksPassword (A.answers self.now.auth_source) message (login_of login.now) result }
+        ensures { ChecksPassword (A.answers self.now.auth_source) message (login_of login.now)
+            result }
     {
         let password = message.into_password(alloc)?;
         self.verify_text(alloc, login, password.password.as_str())

@@ -53,7 +53,8 @@ fn negotiation(
 fn tell<O: Outbox>(out: &mut O, offer: Option<PgWireBackendMessage>) -> PgWireResult<()>
     ensures told { (client : LoginClient) (login : TheState) →
         Did O.add (O.sent out.old) (O.sent out.new) (Sends (offered_messages offer))
-        (standing_in_login client login (O.faults out.old)) (standing_in_login client login (O.faults out.new))
+        (standing_in_login client login (O.faults out.old))
+        (standing_in_login client login (O.faults out.new))
         result }
     ensures flushed { O.waiting out.old ≡ 0 → OnOk result (O.waiting out.new ≡ 0) }
 {

@@ -49,7 +49,8 @@ pub trait NoopStartupHandler {
         message: PgWireFrontendMessage,
     ) -> PgWireResult<()>
         ensures { (login : TheState) → Did O.add (O.sent out.old) (O.sent out.new)
-            (posts self.now message) (standing_in_login (C.sight client.old) login (O.faults out.old))
+            (posts self.now message) (standing_in_login (C.sight client.old) login
+            (O.faults out.old))
             (standing_in_login (C.sight client.new) login (O.faults out.new)) result };
 }
 
@@ -60,7 +61,8 @@ fn introduce_default<C: ClientInfo, O: Outbox>(
     out: &mut O,
 ) -> PgWireResult<()>
     ensures { (login : TheState) → Did O.add (O.sent out.old) (O.sent out.new)
-        (IntroducesBy default_provider) (standing_in_login (C.sight client.now) login (O.faults out.old))
+        (IntroducesBy default_provider) (standing_in_login (C.sight client.now) login
+        (O.faults out.old))
         (standing_in_login (C.sight client.now) login (O.faults out.new)) result }
 {
     let provider = DefaultServerParameterProvider::new(alloc)?;

@@ -18,7 +18,8 @@ pub trait Registers {
     ghost fits: { Self → Option Known → Type 0 };
 
     /// What may become of a pass, and be answered, for a process number and key.
-    ghost registers: { Self → Option Known → ℤ → Key → Option Known → Result (Option HandlePair) Refusal →
+    ghost registers: { Self → Option Known → ℤ → Key → Option Known →
+        Result (Option HandlePair) Refusal →
         Type 0 };
 
     /// Registers a connection by its process number and key, or does not where there is no pass.

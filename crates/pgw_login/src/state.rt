@@ -98,7 +98,8 @@ impl LoginState {
     pub fn start(&mut self) -> PgWireResult<()>
         ensures source { IsSameSource self.old self.new }
         ensures started { (client : LoginClient) (faults : ℕ) →
-            StartsLogin (standing_in_login client self.old faults) (standing_in_login client self.new faults) [] result }
+            StartsLogin (standing_in_login client self.old faults)
+            (standing_in_login client self.new faults) [] result }
     {
         match &self.sasl {
             SASLState::Initial if !self.started => {
@@ -112,7 +113,8 @@ impl LoginState {
     /// Whether a first password message may come. It may come once.
     pub fn await_password(&self) -> PgWireResult<()>
         ensures { (client : LoginClient) (faults : ℕ) →
-            LoginAwaits (standing_in_login client self.now faults) (standing_in_login client self.now faults) [] result }
+            LoginAwaits (standing_in_login client self.now faults)
+            (standing_in_login client self.now faults) [] result }
     {
         match &self.sasl {
             SASLState::Initial if self.started => Ok(()),

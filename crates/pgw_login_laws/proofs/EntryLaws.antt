@@ -88,10 +88,13 @@ module _ {S X W : Type 0} {D : X → Type 0} (E : S → ScramServerAuth → Logi
     accepts : (waiting : W) → (final verifier : List ℕ) → sasl ≡ waits waiting → IsFurther message final
         → T waiting final verifier
         → Meant login nonce sasl message (Ok (Some (auth.SASLFinal verifier), state.Finished))
-    asks : (text : List ℕ) → Meant login nonce sasl message (Ok (Some (auth.SASLContinue text), state.OauthStateInit))
-    tells : (text : List ℕ) → Meant login nonce sasl message (Ok (Some (auth.SASLContinue text), state.OauthStateError))
+    asks : (text : List ℕ)
+        → Meant login nonce sasl message (Ok (Some (auth.SASLContinue text), state.OauthStateInit))
+    tells : (text : List ℕ)
+        → Meant login nonce sasl message (Ok (Some (auth.SASLContinue text), state.OauthStateError))
     bears : (o : Oauth X D) → (payload : List ℕ) → oauth ≡ Some o → IsInitial message OauthBearer payload
-        ⊎ IsFurther message payload → Bears o login payload → Meant login nonce sasl message (Ok (None, state.Finished))
+        ⊎ IsFurther message payload → Bears o login payload
+        → Meant login nonce sasl message (Ok (None, state.Finished))
 
   module _ (login : Login) (nonce : List ℕ) (sasl : SASLState) (message : Message) where
     abbrev Means : Reply → Type 0
@@ -123,7 +126,8 @@ module _ {S X W : Type 0} {D : X → Type 0} (E : S → ScramServerAuth → Logi
     scram_first (Some sc) read reply set is under h = first_came sc read h.0 reply set is under
         ((ends sc).first login read nonce h.0 h.1) h.2
 
-    further_came : (read : SASLResponse) (at : SASLState) (replied : Result (Authentication × SASLState) PgWireError)
+    further_came : (read : SASLResponse) (at : SASLState)
+        (replied : Result (Authentication × SASLState) PgWireError)
         (reply : Reply) → sasl ≡ at → IsFurther message read.payload → CameFurther waits T at read.payload replied
         → reply ≡ and_some replied → Means reply
     further_came read at replied reply here is (none_taken e) same = refused e reply same
@@ -131,7 +135,8 @@ module _ {S X W : Type 0} {D : X → Type 0} (E : S → ScramServerAuth → Logi
         subst (Meant login nonce sasl message) (sym same)
         (accepts waiting read.payload verifier (here ∙ by) is takes)
 
-    scram_further : (is_set : Option (ScramAuth S)) (read : SASLResponse) (at : SASLState) (reply : Reply) → sasl ≡ at
+    scram_further : (is_set : Option (ScramAuth S)) (read : SASLResponse) (at : SASLState) (reply : Reply)
+        → sasl ≡ at
         → IsFurther message read.payload → ByScram E is_set login (family.SASLResponse read) nonce at reply
         → Means reply
     scram_further None read at reply here is (inl h) = refused _ reply h
@@ -173,20 +178,23 @@ module _ {S X W : Type 0} {D : X → Type 0} (E : S → ScramServerAuth → Logi
         → reply ≡ oauth_reply verdict → Means reply
     by_verdict o payload token (Err e) reply set is has_token h same = refused e reply same
     by_verdict o payload token (Ok done) reply set is has_token h same = subst (Meant login nonce sasl message)
-        (sym same) (bears o payload set is (bears_judged o payload token login.user (Ok done) refl has_token h refl))
+        (sym same) (bears o payload set is
+        (bears_judged o payload token login.user (Ok done) refl has_token h refl))
 
     by_token : (o : Oauth X D) (payload : List ℕ) (t : Result (Option (List ℕ)) PgWireError) (reply : Reply)
         → oauth ≡ Some o → IsInitial message OauthBearer payload ⊎ IsFurther message payload
         → token_of (lossy payload) ≡ t → ByToken (V o) o.issuer o.scope login.user t reply → Means reply
     by_token o payload (Err e) reply set is has h = refused e reply h
     by_token o payload (Ok None) reply set is has h = subst (Meant login nonce sasl message) (sym h.2) (tells h.0)
-    by_token o payload (Ok (Some token)) reply set is has h = by_verdict o payload token h.0 reply set is has h.1 h.2
+    by_token o payload (Ok (Some token)) reply set is has h =
+        by_verdict o payload token h.0 reply set is has h.1 h.2
 
     by_data : (o : Oauth X D) (payload : Option (List ℕ)) (reply : Reply) → oauth ≡ Some o
         → ((p : List ℕ) → payload ≡ Some p → IsInitial message OauthBearer p ⊎ IsFurther message p)
         → ByData (V o) o.issuer o.scope login.user (Ok payload) reply → Means reply
     by_data o None reply set is h = subst (Meant login nonce sasl message) (sym h) (asks [])
-    by_data o (Some payload) reply set is h = by_token o payload (token_of (lossy payload)) reply set (is payload refl)
+    by_data o (Some payload) reply set is h =
+        by_token o payload (token_of (lossy payload)) reply set (is payload refl)
         refl h
 
     oauth_first : (is_set : Option (Oauth X D)) (read : SASLInitialResponse) (reply : Reply) → oauth ≡ is_set
@@ -198,7 +206,8 @@ module _ {S X W : Type 0} {D : X → Type 0} (E : S → ScramServerAuth → Logi
     oauth_first (Some o) read reply set is (inr h) = by_data o read.payload reply set (λ p has. inl (is p has)) h
 
     oauth_further : (is_set : Option (Oauth X D)) (read : SASLResponse) (reply : Reply) → oauth ≡ is_set
-        → IsFurther message read.payload → ByOauth is_set V login (family.SASLResponse read) nonce state.OauthStateInit
+        → IsFurther message read.payload
+        → ByOauth is_set V login (family.SASLResponse read) nonce state.OauthStateInit
         reply → Means reply
     oauth_further None read reply set is (inl h) = refused _ reply h
     oauth_further None read reply set is (inr h) = refused _ reply h
@@ -207,7 +216,8 @@ module _ {S X W : Type 0} {D : X → Type 0} (E : S → ScramServerAuth → Logi
         by_data o (Some read.payload) reply set (λ p has. let same : read.payload ≡ p = cc in inr
         (subst (IsFurther message) same is)) h
 
-    ended_refuses : (b : Bool) (one other : PgWireError) (reply : Reply) → reply ≡ (if b then Err one else Err other)
+    ended_refuses : (b : Bool) (one other : PgWireError) (reply : Reply)
+        → reply ≡ (if b then Err one else Err other)
         → Means reply
     ended_refuses true one other reply h = refused one reply h
     ended_refuses false one other reply h = refused other reply h
@@ -224,7 +234,8 @@ module _ {S X W : Type 0} {D : X → Type 0} (E : S → ScramServerAuth → Logi
     by_first : (p : PasswordMessageFamily) (read : SASLInitialResponse) (method : Method) (reply : Reply)
         → message ≡ frontend.PasswordMessageFamily p → as_initial_response p ≡ Ok read
         → sasl_method read.auth_method ≡ Some method
-        → By (ByScram E scram) (ByOauth oauth V) login method (family.SASLInitialResponse read) nonce (sasl_start method)
+        → By (ByScram E scram) (ByOauth oauth V) login method (family.SASLInitialResponse read) nonce
+        (sasl_start method)
         reply → Means reply
     by_first p read Scram reply is reads named_method h = scram_first scram read reply refl (λ first has. (
       p,
@@ -234,17 +245,19 @@ module _ {S X W : Type 0} {D : X → Type 0} (E : S → ScramServerAuth → Logi
       named_method,
       has,
     )) (p, read, is, reads, refl) h
-    by_first p read OauthBearer reply is reads named_method h = oauth_first oauth read reply refl (λ payload has. (
-      p,
-      read,
-      is,
-      reads,
-      named_method,
-      has,
-    )) h
+    by_first p read OauthBearer reply is reads named_method h =
+        oauth_first oauth read reply refl (λ payload has. (
+          p,
+          read,
+          is,
+          reads,
+          named_method,
+          has,
+        )) h
 
     -- a further message, in each state
-    by_further : (p : PasswordMessageFamily) (read : SASLResponse) (at : SASLState) (method : Method) (reply : Reply)
+    by_further : (p : PasswordMessageFamily) (read : SASLResponse) (at : SASLState) (method : Method)
+        (reply : Reply)
         → message ≡ frontend.PasswordMessageFamily p → as_response p ≡ Ok read → sasl ≡ at
         → sasl_stage true at ≡ turn.Further method → By (ByScram E scram) (ByOauth oauth V) login method
         (family.SASLResponse read) nonce (entered method at)
@@ -260,10 +273,12 @@ module _ {S X W : Type 0} {D : X → Type 0} (E : S → ScramServerAuth → Logi
         scram_further scram read (state.StoredServerFirstSent waiting) reply here (p, read, is, reads, refl) h
     by_further p read (state.StoredServerFirstSent waiting) OauthBearer reply is reads here stage h = absurd cc
     by_further p read state.OauthStateInit Scram reply is reads here stage h = absurd cc
-    by_further p read state.OauthStateInit OauthBearer reply is reads here stage h = oauth_further oauth read reply
+    by_further p read state.OauthStateInit OauthBearer reply is reads here stage h =
+        oauth_further oauth read reply
         refl (p, read, is, reads, refl) h
     by_further p read state.OauthStateError Scram reply is reads here stage h = absurd cc
-    by_further p read state.OauthStateError OauthBearer reply is reads here stage h = oauth_ends oauth read reply h
+    by_further p read state.OauthStateError OauthBearer reply is reads here stage h =
+        oauth_ends oauth read reply h
     by_further p read state.Finished method reply is reads here stage h = absurd cc
     by_further p read state.Failed method reply is reads here stage h = absurd cc
 
@@ -282,9 +297,11 @@ module _ {S X W : Type 0} {D : X → Type 0} (E : S → ScramServerAuth → Logi
         (family.SASLInitialResponse read) st.nonce (entered method s) reply) here h)
 
     turned_first : (r : Result SASLInitialResponse PgWireError) (reply : Reply) → as_initial_response p ≡ r
-        → st.sasl ≡ state.Initial → ByTurn (ByScram E scram) (ByOauth oauth V) login st (named_method r) reply → Turns reply
+        → st.sasl ≡ state.Initial → ByTurn (ByScram E scram) (ByOauth oauth V) login st (named_method r) reply
+        → Turns reply
     turned_first (Err e) reply reads here h = refused login st.nonce st.sasl message e reply h
-    turned_first (Ok read) reply reads here h = turned_named read (sasl_method read.auth_method) reply reads refl here h
+    turned_first (Ok read) reply reads here h =
+        turned_named read (sasl_method read.auth_method) reply reads refl here h
 
     turned_further : (at : SASLState) (method : Method) (r : Result SASLResponse PgWireError) (reply : Reply)
         → as_response p ≡ r → st.sasl ≡ at → sasl_stage true at ≡ turn.Further method
@@ -296,10 +313,12 @@ module _ {S X W : Type 0} {D : X → Type 0} (E : S → ScramServerAuth → Logi
         st.nonce (entered method s) reply) here h)
 
     turned_at : (started : Bool) (at : SASLState) (reply : Reply) → st.started ≡ started → st.sasl ≡ at
-        → ByTurn (ByScram E scram) (ByOauth oauth V) login st (turned (sasl_stage started at) p) reply → Turns reply
+        → ByTurn (ByScram E scram) (ByOauth oauth V) login st (turned (sasl_stage started at) p) reply
+        → Turns reply
     turned_at false at reply on here h = refused login st.nonce st.sasl message _ reply h
     turned_at true state.Initial reply on here h = turned_first (as_initial_response p) reply refl here h
-    turned_at true state.ScramClientFirstReceived reply on here h = turned_further state.ScramClientFirstReceived Scram
+    turned_at true state.ScramClientFirstReceived reply on here h =
+        turned_further state.ScramClientFirstReceived Scram
         (as_response p) reply refl here refl h
     turned_at true (state.ScramServerFirstSent waiting) reply on here h = turned_further
         (state.ScramServerFirstSent waiting) Scram (as_response p) reply refl here refl h
@@ -375,7 +394,8 @@ module _ {S X W : Type 0} {D : X → Type 0} (E : S → ScramServerAuth → Logi
         nonce ts more who waiting (k.offered waiting is);
   }
 
-  offer_rests : (nonce : List ℕ) (ts : List Taken) (who : Login) (st : LoginState) → st.nonce ≡ nonce → Rests st.sasl
+  offer_rests : (nonce : List ℕ) (ts : List Taken) (who : Login) (st : LoginState) → st.nonce ≡ nonce
+      → Rests st.sasl
       → KeepsOffer nonce ts who st
   offer_rests nonce ts who st own rests = record {
     own = own;
@@ -424,7 +444,8 @@ module _ {S X W : Type 0} {D : X → Type 0} (E : S → ScramServerAuth → Logi
       })
 
   offers_now : (is_set : Option (ScramAuth S)) (sc : ScramAuth S) (nonce : List ℕ) (ts : List Taken) (t : Taken)
-      (login : Login) (name first offer : List ℕ) (waiting : W) → is_set ≡ Some sc → IsInitial t.message Scram first
+      (login : Login) (name first offer : List ℕ) (waiting : W) → is_set ≡ Some sc
+      → IsInitial t.message Scram first
       → HasMethodName t.message name → G sc login name first nonce offer waiting
       → t.said ≡ backend.Authentication (auth.SASLContinue offer) ∷ []
       → IsOfferedBy is_set nonce (ts ++ t ∷ []) login waiting
@@ -454,11 +475,13 @@ module _ {S X W : Type 0} {D : X → Type 0} (E : S → ScramServerAuth → Logi
     Keeps ts who st = KeepsOffer begin.login.nonce ts who st
 
     abbrev Knows : List Taken → Standing → Type 0
-    Knows ts s = IsKnown (ProvesSasl Shows scram V oauth begin) (KeepsOffer begin.login.nonce) begin.client ts s.client
+    Knows ts s =
+        IsKnown (ProvesSasl Shows scram V oauth begin) (KeepsOffer begin.login.nonce) begin.client ts s.client
         s.login
 
     abbrev GoesOn : List Taken → Taken → Standing → List Backend → Answer → Type 0
-    GoesOn ts t after sent answer = Goes (ProvesSasl Shows scram V oauth begin) (KeepsOffer begin.login.nonce) begin.client
+    GoesOn ts t after sent answer =
+        Goes (ProvesSasl Shows scram V oauth begin) (KeepsOffer begin.login.nonce) begin.client
         ts t after sent answer
 
     -- ---- a reply that goes on
@@ -467,14 +490,16 @@ module _ {S X W : Type 0} {D : X → Type 0} (E : S → ScramServerAuth → Logi
     On due next = Then (Sends due) (Then (Marks (with_sasl next)) LoginStays)
 
     quiet_on : (due : List Backend) (next : SASLState) → list_any lets_in due ≡ false → Quiet (On due next)
-    quiet_on due next none = quiet_then (Sends due) (Then (Marks (with_sasl next)) LoginStays) (quiet_sends due none)
+    quiet_on due next none =
+        quiet_then (Sends due) (Then (Marks (with_sasl next)) LoginStays) (quiet_sends due none)
         (quiet_then (Marks (with_sasl next)) LoginStays (quiet_marks (with_sasl next)) quiet_passes)
 
     roots_on : (due : List Backend) (next : SASLState) → Roots (On due next)
     roots_on due next = roots_then (Sends due) (Then (Marks (with_sasl next)) LoginStays) (roots_sends due)
         (roots_then (Marks (with_sasl next)) LoginStays (roots_marked next) roots_passes)
 
-    went_on : (due : List Backend) (next : SASLState) (before after : Standing) (sent : List Backend) (answer : Answer)
+    went_on : (due : List Backend) (next : SASLState) (before after : Standing) (sent : List Backend)
+        (answer : Answer)
         → On due next before after sent answer → answer ≡ Ok tt → (after.client.state ≡ before.client.state)
         × (after.login.sasl ≡ next) × (sent ≡ due)
     went_on due next before after sent answer h ok =
@@ -483,7 +508,8 @@ module _ {S X W : Type 0} {D : X → Type 0} (E : S → ScramServerAuth → Logi
         let back : b.2 ≡ [] = c.5 ∙ ap (λ (l : List Backend). l ++ c.2) c.3.1 ∙ c.4.1 in (
           ap (λ (s : Standing). s.client.state) (c.4.0 ∙ c.3.0) ∙ ap (λ (s : Standing). s.client.state) b.3.0,
           ap (λ (s : Standing). s.login.sasl) (c.4.0 ∙ c.3.0),
-          b.5 ∙ ap (λ (l : List Backend). l ++ b.2) b.3.1 ∙ ap (λ (l : List Backend). due ++ l) back ∙ append-nil due,
+          b.5 ∙ ap (λ (l : List Backend). l ++ b.2) b.3.1 ∙ ap (λ (l : List Backend). due ++ l) back
+              ∙ append-nil due,
         )
 
     goes_on : (ts : List Taken) (t : Taken) (before after : Standing) (due sent : List Backend) (next : SASLState)
@@ -497,7 +523,8 @@ module _ {S X W : Type 0} {D : X → Type 0} (E : S → ScramServerAuth → Logi
         record {
           says = λ says. quiet_says sent (quiet_on due next none before after sent answer h) says;
           keeps = λ ok. let w = went_on due next before after sent answer h ok in
-              known_on (ProvesSasl Shows scram V oauth begin) (KeepsOffer begin.login.nonce) begin.client ts t before after
+              known_on (ProvesSasl Shows scram V oauth begin) (KeepsOffer begin.login.nonce) begin.client ts t
+              before after
               k on same w.0 (keeps w.2 (ap (λ r. r.nonce) same ∙ k.keeps.own) w.1 (ap (λ r. r.who) same));
         }
 
@@ -507,23 +534,29 @@ module _ {S X W : Type 0} {D : X → Type 0} (E : S → ScramServerAuth → Logi
     Lets due = Then (Sends due) (Then (Marks (with_sasl state.Finished)) (Finishes P R))
 
     roots_lets : (due : List Backend) → Roots (Lets due)
-    roots_lets due = roots_then (Sends due) (Then (Marks (with_sasl state.Finished)) (Finishes P R)) (roots_sends due)
+    roots_lets due =
+        roots_then (Sends due) (Then (Marks (with_sasl state.Finished)) (Finishes P R)) (roots_sends due)
         (roots_then (Marks (with_sasl state.Finished)) (Finishes P R) (roots_marked state.Finished)
         (roots_finishes P R))
 
     finished_at : (before after : Standing) (sent : List Backend) (answer : Answer)
         → Finishes P R before after sent answer → answer ≡ Ok tt → after.login.sasl ≡ state.Finished
     finished_at before after sent answer h ok =
-        let b = then_both (AcceptsLogin R) (Then (FinishesAuthentication P) (Marks (with_sasl state.Finished))) before after
+        let b =
+        then_both (AcceptsLogin R) (Then (FinishesAuthentication P) (Marks (with_sasl state.Finished))) before
+        after
         sent answer h ok in
-        let c = then_both (FinishesAuthentication P) (Marks (with_sasl state.Finished)) b.0 after b.2 (Ok tt) b.4 refl
+        let c =
+        then_both (FinishesAuthentication P) (Marks (with_sasl state.Finished)) b.0 after b.2 (Ok tt) b.4 refl
         in
         ap (λ (s : Standing). s.login.sasl) c.4.0
 
     let_at : (due : List Backend) (before after : Standing) (sent : List Backend) (answer : Answer)
         → Lets due before after sent answer → answer ≡ Ok tt → after.login.sasl ≡ state.Finished
     let_at due before after sent answer h ok =
-        let b = then_both (Sends due) (Then (Marks (with_sasl state.Finished)) (Finishes P R)) before after sent answer
+        let b =
+        then_both (Sends due) (Then (Marks (with_sasl state.Finished)) (Finishes P R)) before after sent
+        answer
         h ok in
         let c = then_both (Marks (with_sasl state.Finished)) (Finishes P R) b.0 after b.2 (Ok tt) b.4 refl in
         finished_at c.0 after c.2 (Ok tt) c.4 refl
@@ -535,8 +568,11 @@ module _ {S X W : Type 0} {D : X → Type 0} (E : S → ScramServerAuth → Logi
         let same = roots_lets due before after sent answer h in
         record {
           says = λ says. proof;
-          keeps = λ ok. known_proven (ProvesSasl Shows scram V oauth begin) (KeepsOffer begin.login.nonce) begin.client ts
-              t before after k on same proof (offer_rests begin.login.nonce (ts ++ t ∷ []) (login_seen after.client)
+          keeps =
+              λ ok. known_proven (ProvesSasl Shows scram V oauth begin) (KeepsOffer begin.login.nonce)
+              begin.client ts
+              t before after k on same proof
+              (offer_rests begin.login.nonce (ts ++ t ∷ []) (login_seen after.client)
               after.login (ap (λ r. r.nonce)
               same ∙ k.keeps.own) (not_sent after.login.sasl (ap is_sent (let_at due before after sent answer h ok))));
         }
@@ -547,12 +583,17 @@ module _ {S X W : Type 0} {D : X → Type 0} (E : S → ScramServerAuth → Logi
         (reply : Reply) → Knows ts before → before.login.started ≡ true → t.said ≡ sent
         → Meant (login_seen before.client) before.login.nonce before.login.sasl t.message reply
         → RespondsBy P R reply before after sent answer → GoesOn ts t after sent answer
-    responds ts t before after sent answer reply k on said (refuses e) h = record
-        { says = λ says. quiet_says sent (nothing_said sent h.1) says; keeps = λ ok. absurd (not_both answer e h.2 ok) }
-    responds ts t before after sent answer reply k on said (offers sc name first offer waiting set is under gives) h =
+    responds ts t before after sent answer reply k on said (refuses e) h = record {
+      says = λ says. quiet_says sent (nothing_said sent h.1) says;
+      keeps = λ ok. absurd
+          (not_both answer e h.2 ok);
+    }
+    responds ts t before after sent answer reply k on said (offers sc name first offer waiting set is under gives)
+        h =
         let due : List Backend = backend.Authentication (auth.SASLContinue offer) ∷ [] in
         let act : On due (waits waiting) before after sent answer = subst (λ (b : Bool). Then (Sends due)
-        (Then (Marks (with_sasl (waits waiting))) (EndsSaslLogin P R b)) before after sent answer) (apart.goes_on waiting) h in
+        (Then (Marks (with_sasl (waits waiting))) (EndsSaslLogin P R b)) before after sent answer)
+        (apart.goes_on waiting) h in
         goes_on ts t before after due sent (waits waiting) answer k on refl act (λ all own at who. record {
           own = own;
           rests = λ off. absurd (on_and_off after.login.started
@@ -561,10 +602,12 @@ module _ {S X W : Type 0} {D : X → Type 0} (E : S → ScramServerAuth → Logi
               let by_own : G sc (login_seen before.client) name first begin.login.nonce offer waiting = subst
               (λ (n : List ℕ). G sc (login_seen before.client) name first n offer waiting) k.keeps.own gives in
               let mine : IsOfferedBy scram begin.login.nonce (ts ++ t ∷ []) (login_seen before.client) waiting =
-              offers_now scram sc begin.login.nonce ts t (login_seen before.client) name first offer waiting set is
+              offers_now scram sc begin.login.nonce ts t (login_seen before.client) name first offer waiting set
+              is
               under by_own (said ∙ all) in
               subst (IsOfferedBy scram begin.login.nonce (ts ++ t ∷ []) (login_seen after.client)) same
-              (subst (λ (l : Login). IsOfferedBy scram begin.login.nonce (ts ++ t ∷ []) l waiting) (sym who) mine);
+              (subst (λ (l : Login). IsOfferedBy scram begin.login.nonce (ts ++ t ∷ []) l waiting) (sym who)
+              mine);
         })
     responds ts t before after sent answer reply k on said (accepts waiting final verifier at is takes) h =
         lets ts t before after (backend.Authentication (auth.SASLFinal verifier) ∷ []) sent answer k on
@@ -575,18 +618,21 @@ module _ {S X W : Type 0} {D : X → Type 0} (E : S → ScramServerAuth → Logi
         answer k on refl h (λ all own at who. offer_rests begin.login.nonce (ts ++ t ∷ [])
         (login_seen after.client) after.login own (not_sent after.login.sasl (ap is_sent at)))
     responds ts t before after sent answer reply k on said (tells text) h =
-        goes_on ts t before after (backend.Authentication (auth.SASLContinue text) ∷ []) sent state.OauthStateError
+        goes_on ts t before after (backend.Authentication (auth.SASLContinue text) ∷ []) sent
+        state.OauthStateError
         answer k on refl h (λ all own at who. offer_rests begin.login.nonce (ts ++ t ∷ [])
         (login_seen after.client) after.login own (not_sent after.login.sasl (ap is_sent at)))
     responds ts t before after sent answer reply k on said (bears o payload set is b) h =
         lets ts t before after [] sent answer k on
         (inr (proves_token oauth o begin ts t (login_seen before.client) payload set (k.named on) is b)) h
 
-    refused_reply : (ts : List Taken) (t : Taken) (before after : Standing) (sent : List Backend) (answer : Answer)
+    refused_reply : (ts : List Taken) (t : Taken) (before after : Standing) (sent : List Backend)
+        (answer : Answer)
         (reply : Reply) (e : PgWireError) → reply ≡ Err e → RespondsBy P R reply before after sent answer
         → GoesOn ts t after sent answer
     refused_reply ts t before after sent answer reply e is h =
-        let r : LoginRefuses e before after sent answer = subst (λ (x : Reply). RespondsBy P R x before after sent answer)
+        let r : LoginRefuses e before after sent answer =
+        subst (λ (x : Reply). RespondsBy P R x before after sent answer)
         is h in
         record {
           says = λ says. quiet_says sent (nothing_said sent r.1) says;
@@ -606,7 +652,8 @@ module _ {S X W : Type 0} {D : X → Type 0} (E : S → ScramServerAuth → Logi
           let o = opened s before b.0 b.1 (Ok tt) b.3 refl in
           let same : after ≡ b.0 = offered_to methods b.0 after b.2 (Ok tt) b.4 refl in
           let login : after.login ≡ with_started before.login = ap (λ x. x.login) same ∙ o.login in
-          known_begun (ProvesSasl Shows scram V oauth begin) (KeepsOffer begin.login.nonce) begin.client ts t s before b.0
+          known_begun (ProvesSasl Shows scram V oauth begin) (KeepsOffer begin.login.nonce) begin.client ts t s
+          before b.0
           after k (is ∙ heard_startup m s hears) o (ap (λ x. login_seen x.client) same)
           (ap (λ x. x.login.started) same) (ap (λ x. x.client.state) same)
           (offer_rests begin.login.nonce (ts ++ t ∷ []) (login_seen after.client) after.login
@@ -628,7 +675,9 @@ module _ {S X W : Type 0} {D : X → Type 0} (E : S → ScramServerAuth → Logi
         ]
     sasl_on methods ts t m of.Other before after sent answer k is said hears h = record {
       says = λ says. quiet_says sent (nothing_said sent h.1) says;
-      keeps = λ ok. known_passed (ProvesSasl Shows scram V oauth begin) (KeepsOffer begin.login.nonce) begin.client ts t
+      keeps =
+          λ ok. known_passed (ProvesSasl Shows scram V oauth begin) (KeepsOffer begin.login.nonce) begin.client ts
+          t
           before after k h.0 (λ more. offer_stays begin.login.nonce ts t (login_seen before.client) before.login more);
     }
 
@@ -637,7 +686,8 @@ module _ {S X W : Type 0} {D : X → Type 0} (E : S → ScramServerAuth → Logi
         → t.stage.login ≡ before.login → t.message ≡ m → t.said ≡ sent
         → SaslMeans methods (ByScram E scram) (ByOauth oauth V) P R m before after sent answer
         → GoesOn ts t after sent answer
-    sasl_means methods ts t m before after sent (Ok done) k c l is said h = sasl_on methods ts t m (heard m) before
+    sasl_means methods ts t m before after sent (Ok done) k c l is said h =
+        sasl_on methods ts t m (heard m) before
         after sent (Ok done) k is said refl h
     sasl_means methods ts t m before after sent (Err e) k c l is said h =
         let g = sasl_on methods ts t m (heard m) before h.0 sent (Err e) k is said refl h.1 in
@@ -648,10 +698,12 @@ module _ {S X W : Type 0} {D : X → Type 0} (E : S → ScramServerAuth → Logi
       → LetsInBy (SaslMeans methods (ByScram E scram) (ByOauth oauth V) P R) (ProvesSasl Shows scram V oauth)
   sasl_lets_in methods P R bound client login given course new way =
       guarded (SaslMeans methods (ByScram E scram) (ByOauth oauth V) P R)
-      (ProvesSasl Shows scram V oauth (begins_within bound client login)) (KeepsOffer login.nonce) client (offer_stays login.nonce)
+      (ProvesSasl Shows scram V oauth (begins_within bound client login)) (KeepsOffer login.nonce) client
+      (offer_stays login.nonce)
       (sasl_means P R (begins_within bound client login) methods) bound login given course (record {
         fresh = λ off. refl;
         named = λ on. on_and_off login.started on new.1;
         ready = λ is. never_ready client new.0 is;
-        keeps = offer_rests login.nonce [] (login_seen client) login refl (not_sent login.sasl (ap is_sent new.2));
+        keeps =
+            offer_rests login.nonce [] (login_seen client) login refl (not_sent login.sasl (ap is_sent new.2));
       }) way

@@ -32,9 +32,11 @@ module _ (A : Source) (server : ScramServerAuth) where
     Came : Result (Authentication × SASLState) PgWireError → Type 0
     Came replied = CameFirst waits (GivesSalted A server login name) nonce payload replied
 
-    refused : (e : PgWireError) (replied : Result (Authentication × SASLState) PgWireError) → replied ≡ Err e → Came replied
+    refused : (e : PgWireError) (replied : Result (Authentication × SASLState) PgWireError) → replied ≡ Err e
+        → Came replied
     unfolding Came
-    refused e replied is = subst (CameFirst waits (GivesSalted A server login name) nonce payload) (sym is) (none_given e)
+    refused e replied is =
+        subst (CameFirst waits (GivesSalted A server login name) nonce payload) (sym is) (none_given e)
 
     by_offer : (first : List ℕ) (kept : Kept) (o : Result (List ℕ × WaitingForClientFinal) PgWireError)
         (replied : Result (Authentication × SASLState) PgWireError) → payload ≡ Some first → A login (Ok kept)
@@ -50,7 +52,8 @@ module _ (A : Source) (server : ScramServerAuth) where
         → FirstWith got server name first nonce replied → Came replied
     unfolding Came
     by_source first (Err e) replied has a is = refused e replied is
-    by_source first (Ok kept) replied has a is = by_offer first kept (offered_under name server first kept nonce) replied has a refl is
+    by_source first (Ok kept) replied has a is =
+        by_offer first kept (offered_under name server first kept nonce) replied has a refl is
 
     by_payload : (p : Option (List ℕ)) (replied : Result (Authentication × SASLState) PgWireError) → payload ≡ p
         → FirstOn A server login name p nonce replied → Came replied
@@ -63,8 +66,10 @@ module _ (A : Source) (server : ScramServerAuth) where
       → FirstReplies A server login (family.SASLInitialResponse read) nonce replied
       → CameFirst waits (GivesSalted A server login read.auth_method) nonce read.payload replied
   unfolding Came
-  first_came login read nonce replied (inl short) = refused login read.auth_method nonce read.payload _ replied short
-  first_came login read nonce replied (inr h) = by_payload login read.auth_method nonce read.payload read.payload replied refl h
+  first_came login read nonce replied (inl short) =
+      refused login read.auth_method nonce read.payload _ replied short
+  first_came login read nonce replied (inr h) =
+      by_payload login read.auth_method nonce read.payload read.payload replied refl h
 
   not_taken : (at : SASLState) (payload : List ℕ) (e : PgWireError)
       (replied : Result (Authentication × SASLState) PgWireError) → replied ≡ Err e
@@ -83,13 +88,16 @@ module _ (A : Source) (server : ScramServerAuth) where
       → ScramReplies A server login (family.SASLResponse read) nonce at replied
       → CameFurther waits TakesSalted at read.payload replied
   further_came login read nonce state.Initial replied h = not_taken _ read.payload _ replied h
-  further_came login read nonce state.ScramClientFirstReceived replied (inl h) = not_taken _ read.payload _ replied h
-  further_came login read nonce state.ScramClientFirstReceived replied (inr h) = not_taken _ read.payload _ replied h
+  further_came login read nonce state.ScramClientFirstReceived replied (inl h) =
+      not_taken _ read.payload _ replied h
+  further_came login read nonce state.ScramClientFirstReceived replied (inr h) =
+      not_taken _ read.payload _ replied h
   further_came login read nonce (state.ScramServerFirstSent waiting) replied (inl h) =
       not_taken _ read.payload _ replied h
   further_came login read nonce (state.ScramServerFirstSent waiting) replied (inr h) =
       by_verdict waiting read.payload (accepted waiting read.payload) replied refl h
-  further_came login read nonce (state.StoredServerFirstSent waiting) replied h = not_taken _ read.payload _ replied h
+  further_came login read nonce (state.StoredServerFirstSent waiting) replied h =
+      not_taken _ read.payload _ replied h
   further_came login read nonce state.OauthStateInit replied h = not_taken _ read.payload _ replied h
   further_came login read nonce state.OauthStateError replied h = not_taken _ read.payload _ replied h
   further_came login read nonce state.Finished replied h = not_taken _ read.payload _ replied h

@@ -32,9 +32,11 @@ module _ (S : SecretSource) (server : ScramServerAuth) where
     Came : Result (Authentication × SASLState) PgWireError → Type 0
     Came replied = CameFirst waits (GivesStored S server login name) nonce payload replied
 
-    refused : (e : PgWireError) (replied : Result (Authentication × SASLState) PgWireError) → replied ≡ Err e → Came replied
+    refused : (e : PgWireError) (replied : Result (Authentication × SASLState) PgWireError) → replied ≡ Err e
+        → Came replied
     unfolding Came
-    refused e replied is = subst (CameFirst waits (GivesStored S server login name) nonce payload) (sym is) (none_given e)
+    refused e replied is =
+        subst (CameFirst waits (GivesStored S server login name) nonce payload) (sym is) (none_given e)
 
     by_offer : (first : List ℕ) (secret : StoredSecret) (o : Result (List ℕ × StoredScramWaiting) PgWireError)
         (replied : Result (Authentication × SASLState) PgWireError) → payload ≡ Some first → S login (Ok secret)
@@ -50,7 +52,8 @@ module _ (S : SecretSource) (server : ScramServerAuth) where
         → FirstWith got server name first nonce replied → Came replied
     unfolding Came
     by_source first (Err e) replied has a is = refused e replied is
-    by_source first (Ok secret) replied has a is = by_offer first secret (offered_under name (over server secret) first nonce) replied has a refl is
+    by_source first (Ok secret) replied has a is =
+        by_offer first secret (offered_under name (over server secret) first nonce) replied has a refl is
 
     by_payload : (p : Option (List ℕ)) (replied : Result (Authentication × SASLState) PgWireError) → payload ≡ p
         → FirstOn S server login name p nonce replied → Came replied
@@ -63,8 +66,10 @@ module _ (S : SecretSource) (server : ScramServerAuth) where
       → FirstReplies S server login (family.SASLInitialResponse read) nonce replied
       → CameFirst waits (GivesStored S server login read.auth_method) nonce read.payload replied
   unfolding Came
-  first_came login read nonce replied (inl short) = refused login read.auth_method nonce read.payload _ replied short
-  first_came login read nonce replied (inr h) = by_payload login read.auth_method nonce read.payload read.payload replied refl h
+  first_came login read nonce replied (inl short) =
+      refused login read.auth_method nonce read.payload _ replied short
+  first_came login read nonce replied (inr h) =
+      by_payload login read.auth_method nonce read.payload read.payload replied refl h
 
   not_taken : (at : SASLState) (payload : List ℕ) (e : PgWireError)
       (replied : Result (Authentication × SASLState) PgWireError) → replied ≡ Err e
@@ -83,9 +88,12 @@ module _ (S : SecretSource) (server : ScramServerAuth) where
       → StoredReplies S server login (family.SASLResponse read) nonce at replied
       → CameFurther waits TakesStored at read.payload replied
   further_came login read nonce state.Initial replied h = not_taken _ read.payload _ replied h
-  further_came login read nonce state.ScramClientFirstReceived replied (inl h) = not_taken _ read.payload _ replied h
-  further_came login read nonce state.ScramClientFirstReceived replied (inr h) = not_taken _ read.payload _ replied h
-  further_came login read nonce (state.ScramServerFirstSent waiting) replied h = not_taken _ read.payload _ replied h
+  further_came login read nonce state.ScramClientFirstReceived replied (inl h) =
+      not_taken _ read.payload _ replied h
+  further_came login read nonce state.ScramClientFirstReceived replied (inr h) =
+      not_taken _ read.payload _ replied h
+  further_came login read nonce (state.ScramServerFirstSent waiting) replied h =
+      not_taken _ read.payload _ replied h
   further_came login read nonce (state.StoredServerFirstSent waiting) replied (inl h) =
       not_taken _ read.payload _ replied h
   further_came login read nonce (state.StoredServerFirstSent waiting) replied (inr h) =

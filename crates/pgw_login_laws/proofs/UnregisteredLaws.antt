@@ -27,7 +27,8 @@ module _ (methods : List (List ℕ)) (S O : Login → PasswordMessageFamily → 
   responds_unties (Err e) = unties_refuses e
   responds_unties (Ok (reply, next)) =
       unties_then (Sends (sasl_messages reply)) _ (unties_sends (sasl_messages reply))
-      (unties_then (Marks (with_sasl next)) _ (unties_marks (with_sasl next) (λ s. refl)) (ends_unties (is_finished next)))
+      (unties_then (Marks (with_sasl next)) _ (unties_marks (with_sasl next) (λ s. refl))
+      (ends_unties (is_finished next)))
 
   sasl_on : (m : Heard) → Unties (SaslOn methods S O P Nowhere m)
   sasl_on (of.Startup s) =

@@ -91,10 +91,11 @@ pub record ProvesScram {W : Type 0} (Gives : Giving W) (Takes : Taking W) (begin
 
 -- the source answered a salted password, by which the server offers
 pub record GivesSalted (A : Source) (server : ScramServerAuth) (login : Login)
-    (name client_first nonce server_first : List ℕ) (waiting : WaitingForClientFinal) : Type 0 where
-  pub kept : Kept
-  pub answered : A login (Ok kept)
-  pub offers : offered_under name server client_first kept nonce ≡ Ok (server_first, waiting)
+    (name client_first nonce server_first : List ℕ) (waiting : WaitingForClientFinal) : Type 0
+  where
+    pub kept : Kept
+    pub answered : A login (Ok kept)
+    pub offers : offered_under name server client_first kept nonce ≡ Ok (server_first, waiting)
 
 abbrev pub TakesSalted : WaitingForClientFinal → (client_final server_final : List ℕ) → Type 0
 TakesSalted waiting client_final server_final = accepted waiting client_final ≡ Ok server_final
@@ -110,15 +111,19 @@ pub record GivesStored (S : SecretSource) (server : ScramServerAuth) (login : Lo
     (name client_first nonce server_first : List ℕ) (waiting : StoredScramWaiting) : Type 0 where
   pub secret : StoredSecret
   pub answered : S login (Ok secret)
-  pub offers : stored_under name (over server secret) client_first nonce ≡ Ok (server_first, waiting)
+  pub offers : stored_under name (over server secret) client_first nonce ≡ Ok
+      (server_first, waiting)
 
 -- its proof hashes to StoredKey
 abbrev pub TakesStored : StoredScramWaiting → (client_final server_final : List ℕ) → Type 0
-TakesStored waiting client_final server_final = AcceptsStored waiting client_final (Ok server_final)
+TakesStored waiting client_final server_final =
+    AcceptsStored waiting client_final (Ok server_final)
 
-abbrev pub ProvesStored : {S : Type 0} → (S → SecretSource) → ScramAuth (Secrets S) → Stage → Proving
+abbrev pub ProvesStored : {S : Type 0} → (S → SecretSource) → ScramAuth (Secrets S) → Stage
+    → Proving
 ProvesStored S scram begin earlier t =
-    ProvesScram (GivesStored (S scram.auth_db.source) scram.authenticator) TakesStored begin earlier t
+    ProvesScram (GivesStored (S scram.auth_db.source) scram.authenticator) TakesStored begin
+    earlier t
 
 -- ---- OAUTHBEARER
 

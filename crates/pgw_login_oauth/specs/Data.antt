@@ -9,7 +9,8 @@ use Rattle.pgw_types.specs.declared.error.OauthFault.{OauthFault}
 use Rattle.pgw_types.specs.declared.error.OauthFault.TheVariants as fault
 
 infixl 10 ◌>>=◌
-abbrev pub ◌>>=◌ : {A B : Type 0} → Result A OauthFault → (A → Result B OauthFault) → Result B OauthFault
+abbrev pub ◌>>=◌ : {A B : Type 0} → Result A OauthFault → (A → Result B OauthFault)
+    → Result B OauthFault
 (Ok x) >>= f = f x
 (Err e) >>= f = Err e
 
@@ -28,12 +29,16 @@ behind_byte byte fault (b ∷ bytes) = if b == byte then Ok bytes else Err fault
 
 -- behind the flag: no authorization identity, and the separator
 abbrev pub behind_flag : List ℕ → Result (List ℕ) OauthFault
-behind_flag bytes = behind_byte 44 fault.Flag bytes >>= (λ a. behind_byte 44 fault.AuthzId a >>= (λ b. behind_byte 1 fault.Separator b))
+behind_flag bytes =
+    behind_byte 44 fault.Flag bytes >>=
+    (λ a. behind_byte 44 fault.AuthzId a >>= (λ b. behind_byte 1 fault.Separator b))
 
 -- the header is a flag `n` or `y`, and two commas; `p` would ask for channel binding
 abbrev pub behind_header : List ℕ → Result (List ℕ) OauthFault
 behind_header [] = Err fault.Flag
-behind_header (b ∷ bytes) = if b == 112 then Err fault.ChannelBinding else (if (b == 110) || (b == 121) then behind_flag bytes else Err fault.Flag)
+behind_header (b ∷ bytes) =
+    if b == 112 then Err fault.ChannelBinding else
+    (if (b == 110) || (b == 121) then behind_flag bytes else Err fault.Flag)
 
 -- ---- pairs
 
@@ -41,14 +46,16 @@ abbrev pub is_auth : List ℕ → Bool
 is_auth key = pointwise nat_eq key (codes "auth")
 
 -- the value of `auth` once a pair is read, of the one before it: an empty one counts as none, and there is one at most
-abbrev pub with_auth_value : Option (List ℕ) → List ℕ → List ℕ → Result (Option (List ℕ)) OauthFault
+abbrev pub with_auth_value : Option (List ℕ) → List ℕ → List ℕ
+    → Result (Option (List ℕ)) OauthFault
 with_auth_value auth key value =
     if not (list_all is_letter key) then Err fault.Key
     else (if is_auth key && is_some auth then Err fault.TwiceAuth
     else (if not (list_all is_value_byte value) then Err fault.Value
     else Ok (if is_auth key && not (length value == 0) then Some value else auth)))
 
-abbrev pub with_cut : Option (List ℕ) → List ℕ → Option (List ℕ) → Result (Option (List ℕ)) OauthFault
+abbrev pub with_cut : Option (List ℕ) → List ℕ → Option (List ℕ)
+    → Result (Option (List ℕ)) OauthFault
 with_cut auth key None = Err fault.Pair
 with_cut auth key (Some value) = with_auth_value auth key value
 
@@ -58,7 +65,9 @@ with_auth_pair auth pair = with_cut auth (before_mark 61 pair) (behind_mark 61 p
 -- pairs are read up to an empty one
 abbrev pub with_pairs : Option (List ℕ) → List (List ℕ) → Result (Option (List ℕ)) OauthFault
 with_pairs auth [] = Ok auth
-with_pairs auth (pair ∷ pairs) = if length pair == 0 then Ok auth else (with_auth_pair auth pair >>= (λ next. with_pairs next pairs))
+with_pairs auth (pair ∷ pairs) =
+    if length pair == 0 then Ok auth else
+    (with_auth_pair auth pair >>= (λ next. with_pairs next pairs))
 
 -- the value of `auth`, if there is one
 abbrev pub auth_in : List ℕ → Result (Option (List ℕ)) OauthFault

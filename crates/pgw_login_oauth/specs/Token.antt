@@ -12,12 +12,17 @@ abbrev pub lower : ℕ → ℕ
 lower b = if nat_le 65 b && nat_le b 90 then b + 32 else b
 
 abbrev pub is_token_byte : ℕ → Bool
-is_token_byte b = (nat_le 97 b && nat_le b 122) || ((nat_le 65 b && nat_le b 90) || ((nat_le 48 b && nat_le b 57)
-    || ((b == 45) || ((b == 46) || ((b == 95) || ((b == 126) || ((b == 43) || ((b == 47) || (b == 61)))))))))
+is_token_byte b =
+    (nat_le 97 b && nat_le b 122) ||
+    ((nat_le 65 b && nat_le b 90) || ((nat_le 48 b && nat_le b 57)
+    || ((b == 45) || ((b == 46) || ((b == 95) ||
+    ((b == 126) || ((b == 43) || ((b == 47) || (b == 61)))))))))
 
 -- what stands behind `Bearer` and a space, in any case
 abbrev pub behind_scheme : List ℕ → Option (List ℕ)
-behind_scheme (a ∷ b ∷ c ∷ d ∷ e ∷ f ∷ g ∷ rest) = if pointwise nat_eq (lower a ∷ lower b ∷ lower c ∷ lower d ∷ lower e ∷ lower f ∷ lower g ∷ []) (codes "bearer ") then Some rest else None
+behind_scheme (a ∷ b ∷ c ∷ d ∷ e ∷ f ∷ g ∷ rest) =
+    if pointwise nat_eq (lower a ∷ lower b ∷ lower c ∷ lower d ∷ lower e ∷ lower f ∷ lower g ∷ [])
+    (codes "bearer ") then Some rest else None
 behind_scheme value = None
 
 abbrev pub from_place : Option ℕ → List ℕ → List ℕ

@@ -68,7 +68,8 @@ err_same {A = A} {E = E} {x = x} {y = y} a b = let h : ◌≡◌ {A = Result A E
 none_not_some : {A : Type 0} {x : A} {o : Option A} → o ≡ None → o ≡ Some x → ⊥
 none_not_some a b = let h = sym a ∙ b in absurd cc
 
-pair_is : {A E B : Type 0} {a c : A} {b d : B} {r : Result (A × B) E} → r ≡ Ok (a, b) → r ≡ Ok (c, d) → (a ≡ c) × (b ≡ d)
+pair_is : {A E B : Type 0} {a c : A} {b d : B} {r : Result (A × B) E} → r ≡ Ok (a, b) → r ≡ Ok (c, d)
+    → (a ≡ c) × (b ≡ d)
 pair_is {A = A} {E = E} {B = B} {a = a} {c = c} {b = b} {d = d} e f =
     let x : A × B = (a, b) in
     let y : A × B = (c, d) in
@@ -82,17 +83,23 @@ unrefused None x y is = (refl, cc)
 unrefused (Some e) x y is = absurd cc
 
 -- a body that is short has an encoding
-pub fits : (f : Framing) (limit : ℕ) (body : List ℕ) → length body + framing.length_field f ≤ limit → (g : List ℕ) × (framing.encoded f limit None body ≡ Ok g)
+pub fits : (f : Framing) (limit : ℕ) (body : List ℕ) → length body + framing.length_field f ≤ limit
+    → (g : List ℕ) × (framing.encoded f limit None body ≡ Ok g)
 unfolding framing.encoded
 fits f limit body small =
-    let within : framing.saturated (length body + framing.length_field f) ≤ limit = omega (arith, small) in
-    (framing.header f (length body) ++ body, rw (le-ltb limit (framing.saturated (length body + framing.length_field f)) within) refl)
+    let within : framing.saturated (length body + framing.length_field f) ≤ limit = omega (arith, small) in (
+      framing.header f (length body) ++ body,
+      rw
+          (le-ltb limit (framing.saturated (length body + framing.length_field f)) within) refl,
+    )
 
 -- ---- what is bound
 
 -- the method and the header, by the two hashes
 abbrev binding_by_two : Option (List ℕ) → Option (List ℕ) → ClientBinding
-binding_by_two hash own = binding_by channel_binding.Prefer hash (offers_of (codes "SCRAM-SHA-256-PLUS") (codes "SCRAM-SHA-256" ∷ bound_methods own))
+binding_by_two hash own =
+    binding_by channel_binding.Prefer hash
+    (offers_of (codes "SCRAM-SHA-256-PLUS") (codes "SCRAM-SHA-256" ∷ bound_methods own))
 
 -- a hash on which the client agrees
 hash_for : Option (List ℕ) → Option (List ℕ) → Option (List ℕ)
@@ -105,14 +112,18 @@ agree_by None own = tt
 agree_by (Some h) None = refl
 agree_by (Some h) (Some o) = refl
 
-suits_for : (hash own : Option (List ℕ)) → is_misbound (hash_for hash own) (gs2_header (binding_by_two hash own)) ≡ false
+suits_for : (hash own : Option (List ℕ))
+    → is_misbound (hash_for hash own) (gs2_header (binding_by_two hash own)) ≡ false
 unfolding hash_for
 suits_for None None = refl
 suits_for None (Some o) = refl
 suits_for (Some h) None = refl
 suits_for (Some h) (Some o) = refl
 
-takes_by_two : (hash own : Option (List ℕ)) → takes_by channel_binding.Prefer (is_some hash) (offers_of (codes "SCRAM-SHA-256-PLUS") (codes "SCRAM-SHA-256" ∷ bound_methods own)) (offers_of (codes "SCRAM-SHA-256") (codes "SCRAM-SHA-256" ∷ bound_methods own)) ≡ true
+takes_by_two : (hash own : Option (List ℕ))
+    → takes_by channel_binding.Prefer (is_some hash)
+    (offers_of (codes "SCRAM-SHA-256-PLUS") (codes "SCRAM-SHA-256" ∷ bound_methods own))
+    (offers_of (codes "SCRAM-SHA-256") (codes "SCRAM-SHA-256" ∷ bound_methods own)) ≡ true
 takes_by_two None None = refl
 takes_by_two None (Some o) = refl
 takes_by_two (Some h) None = refl
@@ -153,7 +164,9 @@ module _ (generator : TableId) (input : PairInput) (sound : IsSoundInput input) 
   both = both_accept client agreeing input.stored input.client_nonce input.server_nonce honest_ends
 
   login_is : client_login input ≡ login
-  login_is = ap (λ (o : Option (List ℕ)). scram_client_login client (unwrap_or o []) (nonce_text input.client_nonce)) h.is_prepared
+  login_is =
+      ap (λ (o : Option (List ℕ)). scram_client_login client (unwrap_or o []) (nonce_text input.client_nonce))
+      h.is_prepared
 
   begins : began client input.client_nonce ≡ Ok (client_first login, record { login = login })
   begins = rw h.is_prepared refl
@@ -167,28 +180,48 @@ module _ (generator : TableId) (input : PairInput) (sound : IsSoundInput input) 
   whole = whole_nonce (nonce_text input.client_nonce) input.server_nonce
 
   abbrev read_first : ClientFirst
-  read_first = record { header = gs2_header login.binding; bare = client_first_bare login.user login.nonce; user = login.user; nonce = login.nonce }
+  read_first =
+      record {
+        header = gs2_header login.binding;
+        bare = client_first_bare login.user login.nonce;
+        user =
+            login.user;
+        nonce = login.nonce;
+      }
 
   -- a server that has offered, and awaits this text of what is bound
   abbrev awaiting : List ℕ → WaitingForClientFinal
-  awaiting binding = record (scram_wait (scram_end input) read_first h.salt (input.stored).password input.server_nonce) {
-    offer = record (offer_of read_first None h.salt input.count input.server_nonce) { binding = binding };
-  }
+  awaiting binding =
+      record (scram_wait (scram_end input) read_first h.salt (input.stored).password input.server_nonce) {
+        offer = record (offer_of read_first None h.salt input.count input.server_nonce) { binding = binding };
+      }
 
   abbrev offers : Option (List ℕ) → List ℕ × WaitingForClientFinal
   offers hash = (server_first whole h.salt input.count, awaiting (base64 (bound (gs2_header login.binding) hash)))
 
-  offers_so : (hash : Option (List ℕ)) → is_misbound hash (gs2_header login.binding) ≡ false → scram_offer (record { iterations = input.count; certificate_hash = hash }) (client_first login) input.stored input.server_nonce ≡ Ok (offers hash)
+  offers_so : (hash : Option (List ℕ)) → is_misbound hash (gs2_header login.binding) ≡ false
+      → scram_offer (record { iterations = input.count; certificate_hash = hash }) (client_first login)
+      input.stored input.server_nonce ≡ Ok (offers hash)
   offers_so hash suits =
       let end : ScramServerAuth = record { iterations = input.count; certificate_hash = hash } in
-      let reads : read_client_first (client_first login) ≡ Ok read_first = reads_client_first login (prepared_utf8 input.user h.user sound.user_utf8 h.is_prepared) h.user_value (base64_utf8 input.client_nonce) (base64_value input.client_nonce) in
-      ap (λ (r : Result ClientFirst ScramMessageFault). scram_offer_as end r input.stored input.server_nonce) reads
-      ∙ ap (λ (b : Bool). unless_misbound (unless_so (not b) (InvalidScramMessage fault.ChannelBinding)) (offered_with end read_first (input.stored).salt (input.stored).password input.server_nonce)) suits
-      ∙ ap (λ (s : Option (List ℕ)). offered_with end read_first s (input.stored).password input.server_nonce) h.has_salt
+      let reads : read_client_first (client_first login) ≡ Ok read_first =
+      reads_client_first login (prepared_utf8 input.user h.user sound.user_utf8 h.is_prepared) h.user_value
+      (base64_utf8 input.client_nonce) (base64_value input.client_nonce) in
+      ap (λ (r : Result ClientFirst ScramMessageFault). scram_offer_as end r input.stored input.server_nonce)
+      reads
+      ∙ ap (λ (b : Bool). unless_misbound (unless_so (not b) (InvalidScramMessage fault.ChannelBinding))
+      (offered_with end read_first (input.stored).salt (input.stored).password input.server_nonce)) suits
+      ∙ ap (λ (s : Option (List ℕ)). offered_with end read_first s (input.stored).password input.server_nonce)
+      h.has_salt
 
-  both_are : (both.server_first ≡ server_first whole h.salt input.count) × (both.server_offered ≡ awaiting (base64 (bound (gs2_header login.binding) (hash_for input.client_hash input.server_hash))))
+  both_are : (both.server_first ≡ server_first whole h.salt input.count)
+      × (both.server_offered ≡ awaiting
+      (base64 (bound (gs2_header login.binding) (hash_for input.client_hash input.server_hash))))
   unfolding agreeing
-  both_are = pair_is (ap (λ (t : List ℕ). scram_offer agreeing t input.stored input.server_nonce) (sym first_is.0) ∙ both.offers) (offers_so (hash_for input.client_hash input.server_hash) (suits_for input.client_hash input.server_hash))
+  both_are =
+      pair_is (ap (λ (t : List ℕ). scram_offer agreeing t input.stored input.server_nonce) (sym first_is.0)
+      ∙ both.offers) (offers_so (hash_for input.client_hash input.server_hash)
+      (suits_for input.client_hash input.server_hash))
 
   server_first_is : both.server_first ≡ server_first whole h.salt input.count
   server_first_is = both_are.0
@@ -200,18 +233,32 @@ module _ (generator : TableId) (input : PairInput) (sound : IsSoundInput input) 
   offer_is : IsOffer generator input both.server_first (awaiting own_text)
   unfolding own_text
   offer_is =
-      let suits = ap (λ (b : ClientBinding). is_misbound input.server_hash (gs2_header b)) (login_bound input) ∙ suits_by input.client_hash input.server_hash in
-      ap (λ (l : ClientLogin). scram_offer (scram_end input) (client_first l) input.stored input.server_nonce) login_is ∙ offers_so input.server_hash suits ∙ ap (λ (f : List ℕ). Ok (f, awaiting (base64 (bound (gs2_header login.binding) input.server_hash)))) (sym server_first_is)
+      let suits =
+      ap (λ (b : ClientBinding). is_misbound input.server_hash (gs2_header b)) (login_bound input)
+      ∙ suits_by input.client_hash input.server_hash in
+      ap (λ (l : ClientLogin). scram_offer (scram_end input) (client_first l) input.stored input.server_nonce)
+      login_is
+      ∙ offers_so input.server_hash suits
+      ∙ ap (λ (f : List ℕ). Ok
+      (f, awaiting (base64 (bound (gs2_header login.binding) input.server_hash))))
+      (sym server_first_is)
 
-  same_offer : (first : List ℕ) (offer : WaitingForClientFinal) → IsOffer generator input first offer → (first ≡ both.server_first) × (offer ≡ awaiting own_text)
+  same_offer : (first : List ℕ) (offer : WaitingForClientFinal) → IsOffer generator input first offer
+      → (first ≡ both.server_first) × (offer ≡ awaiting own_text)
   same_offer first offer off = pair_is off offer_is
 
   -- client-final
-  proves : (first_refusal (client_login input) both.server_first ≡ None) × (client_final login both.server_first ≡ both.client_final) × (signature login both.server_first ≡ (both.client_proved).signature)
+  proves : (first_refusal (client_login input) both.server_first ≡ None)
+      × (client_final login both.server_first ≡ both.client_final)
+      × (signature login both.server_first ≡ (both.client_proved).signature)
   proves =
-      let p : proved (record { login = login }) both.server_first ≡ Ok (both.client_final, both.client_proved) = ap (λ (b : Began). proved b both.server_first) (sym first_is.1) ∙ both.proves in
-      let made : List ℕ × Proved = (client_final login both.server_first, record { signature = signature login both.server_first }) in
-      let u = unrefused (scram.scram_first_refusal (client_login input).nonce both.server_first) made (both.client_final, both.client_proved) p in
+      let p : proved (record { login = login }) both.server_first ≡ Ok (both.client_final, both.client_proved) =
+      ap (λ (b : Began). proved b both.server_first) (sym first_is.1) ∙ both.proves in
+      let made : List ℕ × Proved =
+      (client_final login both.server_first, record { signature = signature login both.server_first }) in
+      let u =
+      unrefused (scram.scram_first_refusal (client_login input).nonce both.server_first) made
+      (both.client_final, both.client_proved) p in
       (ap (option_map of_scram) u.0, λ i. (u.1 i).0, λ i. ((u.1 i).1).signature)
 
   last_is : last generator input both.server_first ≡ both.client_final
@@ -221,56 +268,85 @@ module _ (generator : TableId) (input : PairInput) (sound : IsSoundInput input) 
   expected_is = ap (λ (l : ClientLogin). signature l both.server_first) login_is ∙ proves.2
 
   verifies : final_refusal (expected_of (client_login input) both.server_first) both.server_final ≡ None
-  verifies = ap (λ (e : List ℕ). final_refusal e both.server_final) expected_is ∙ ap (option_map of_scram) (unrefused (scram.scram_refusal (both.client_proved).signature both.server_final) tt tt both.verifies).0
+  verifies =
+      ap (λ (e : List ℕ). final_refusal e both.server_final) expected_is
+      ∙ ap (option_map of_scram)
+      (unrefused (scram.scram_refusal (both.client_proved).signature both.server_final) tt tt
+      both.verifies).0
 
   accepts : accepted both.server_offered (last generator input both.server_first) ≡ Ok both.server_final
   accepts = ap (accepted both.server_offered) last_is ∙ both.accepts
 
   methods_fine : methods_refusal given (methods input) ≡ None
   methods_fine =
-      ap (λ (b : Bool). first_of (unless_so b (client_error.UnsupportedSASLAuthMethods (methods input))) (first_of (unless_so (is_utf8 input.password) (client_error.ScramError scram_fault.PasswordNotUtf8)) (option_map of_scram (user_refusal (saslprep input.user)))))
+      ap (λ (b : Bool). first_of (unless_so b (client_error.UnsupportedSASLAuthMethods (methods input)))
+      (first_of (unless_so (is_utf8 input.password) (client_error.ScramError scram_fault.PasswordNotUtf8))
+      (option_map of_scram (user_refusal (saslprep input.user)))))
       (takes_by_two input.client_hash input.server_hash)
       ∙ rw (h.password_utf8, h.is_prepared) refl
 
-  final_sent : (g : List ℕ) × (client_encodings (final_message (client_login input) both.server_first ∷ []) ≡ Ok g)
-  final_sent = ((h.client_final).0, ap (λ (f : List ℕ). client_encodings (final_message (client_login input) f ∷ [])) server_first_is ∙ (h.client_final).1)
+  final_sent : (g : List ℕ)
+      × (client_encodings (final_message (client_login input) both.server_first ∷ []) ≡ Ok g)
+  final_sent = (
+    (h.client_final).0,
+    ap (λ (f : List ℕ). client_encodings (final_message (client_login input) f ∷ []))
+        server_first_is
+        ∙ (h.client_final).1,
+  )
 
   -- ---- what the server makes of client-final
 
   -- it awaits what an agreeing end does; or it refuses another hash
   data Judged : Type 0 where
     agreed : awaiting own_text ≡ both.server_offered → Judged
-    misbound : accepted (awaiting own_text) (last generator input both.server_first) ≡ Err (InvalidScramMessage fault.ChannelBinding) → HaveDifferentHashes input → Judged
+    misbound : accepted (awaiting own_text) (last generator input both.server_first) ≡ Err
+        (InvalidScramMessage fault.ChannelBinding)
+        → HaveDifferentHashes input → Judged
 
-  differs : (closing : ClientFinal) → read_client_final (last generator input both.server_first) ≡ Ok closing → bytes_eq closing.binding own_text ≡ false → binding_text (bound_to input) ≢ base64 (bound (gs2_header (bound_to input)) input.server_hash)
+  differs : (closing : ClientFinal) → read_client_final (last generator input both.server_first) ≡ Ok closing
+      → bytes_eq closing.binding own_text ≡ false
+      → binding_text (bound_to input) ≢ base64 (bound (gs2_header (bound_to input)) input.server_hash)
   unfolding own_text
   differs closing reads is same =
-      let given : closing.binding ≡ binding_text (bound_to input) = binding_read (client_login input) both.server_first closing reads ∙ ap binding_text (login_bound input) in
-      let due : own_text ≡ base64 (bound (gs2_header (bound_to input)) input.server_hash) = ap (λ (b : ClientBinding). base64 (bound (gs2_header b) input.server_hash)) (login_bound input) in
+      let given : closing.binding ≡ binding_text (bound_to input) =
+      binding_read (client_login input) both.server_first closing reads
+      ∙ ap binding_text (login_bound input) in
+      let due : own_text ≡ base64 (bound (gs2_header (bound_to input)) input.server_hash) =
+      ap (λ (b : ClientBinding). base64 (bound (gs2_header b) input.server_hash)) (login_bound input) in
       let yes = (bytes_eq-Decides closing.binding own_text).1 (given ∙ same ∙ sym due) in
       let no = sym is ∙ yes in
       absurd cc
 
-  judged_by : (closing : ClientFinal) → read_client_final (last generator input both.server_first) ≡ Ok closing → closing.binding ≡ ((both.server_offered).offer).binding → (b : Bool) → bytes_eq closing.binding own_text ≡ b → Judged
+  judged_by : (closing : ClientFinal) → read_client_final (last generator input both.server_first) ≡ Ok closing
+      → closing.binding ≡ ((both.server_offered).offer).binding → (b : Bool)
+      → bytes_eq closing.binding own_text ≡ b → Judged
   judged_by closing reads binds true is =
       let same : closing.binding ≡ own_text = (bytes_eq-Decides closing.binding own_text).0 is in
-      agreed (ap awaiting (sym same ∙ binds ∙ ap (λ (w : WaitingForClientFinal). (w.offer).binding) both_are.1) ∙ sym both_are.1)
+      agreed (ap awaiting (sym same ∙ binds ∙ ap (λ (w : WaitingForClientFinal). (w.offer).binding) both_are.1)
+      ∙ sym both_are.1)
   judged_by closing reads binds false is =
       misbound
-      (ap (λ (r : Result ClientFinal ScramMessageFault). accepted_as (awaiting own_text) (answered_as (awaiting own_text).offer r)) reads
-      ∙ ap (λ (b : Bool). accepted_as (awaiting own_text) (unless (first_of (unless_so b (InvalidScramMessage fault.ChannelBinding)) (unless_so (bytes_eq closing.nonce whole) (InvalidScramMessage fault.Nonce))) closing)) is)
+      (ap (λ (r : Result ClientFinal ScramMessageFault). accepted_as (awaiting own_text)
+      (answered_as (awaiting own_text).offer r)) reads
+      ∙ ap (λ (b : Bool). accepted_as (awaiting own_text)
+      (unless (first_of (unless_so b (InvalidScramMessage fault.ChannelBinding))
+      (unless_so (bytes_eq closing.nonce whole) (InvalidScramMessage fault.Nonce))) closing)) is)
       (differ_by input.client_hash input.server_hash (differs closing reads is))
 
   judged : Judged
   judged =
-      let a = was_accepted both.server_offered (last generator input both.server_first) both.server_final accepts in
+      let a =
+      was_accepted both.server_offered (last generator input both.server_first) both.server_final accepts in
       judged_by a.0 a.1 a.2 (bytes_eq (a.0).binding own_text) refl
 
   -- an offer's answer is that of the offer made
-  answer_is : (first : List ℕ) (offer : WaitingForClientFinal) → IsOffer generator input first offer → accepted offer (last generator input first) ≡ accepted (awaiting own_text) (last generator input both.server_first)
+  answer_is : (first : List ℕ) (offer : WaitingForClientFinal) → IsOffer generator input first offer
+      → accepted offer (last generator input first) ≡ accepted (awaiting own_text)
+      (last generator input both.server_first)
   answer_is first offer off =
       let same = same_offer first offer off in
-      ap (λ (f : List ℕ). accepted offer (last generator input f)) same.0 ∙ ap (λ (o : WaitingForClientFinal). accepted o (last generator input both.server_first)) same.1
+      ap (λ (f : List ℕ). accepted offer (last generator input f)) same.0
+      ∙ ap (λ (o : WaitingForClientFinal). accepted o (last generator input both.server_first)) same.1
 
   -- ---- the client is not refused, and the server refuses another hash alone
 
@@ -278,21 +354,39 @@ module _ (generator : TableId) (input : PairInput) (sound : IsSoundInput input) 
   never_client _ (no_startup e bad) = ok_not_err h.startup.1 bad
   never_client _ (no_method e refused) = none_not_some methods_fine refused
   never_client _ (no_first e bad) = ok_not_err h.client_first.1 bad
-  never_client _ (bad_first e first offer off refused) = none_not_some proves.0 (ap (first_refusal (client_login input)) (sym (same_offer first offer off).0) ∙ refused)
-  never_client _ (no_final e first offer off fine bad) = ok_not_err final_sent.1 (ap (λ (f : List ℕ). client_encodings (final_message (client_login input) f ∷ [])) (sym (same_offer first offer off).0) ∙ bad)
+  never_client _ (bad_first e first offer off refused) =
+      none_not_some proves.0 (ap (first_refusal (client_login input)) (sym (same_offer first offer off).0)
+      ∙ refused)
+  never_client _ (no_final e first offer off fine bad) =
+      ok_not_err final_sent.1
+      (ap (λ (f : List ℕ). client_encodings (final_message (client_login input) f ∷ []))
+      (sym (same_offer first offer off).0) ∙ bad)
   never_client _ (bad_final e first offer final off fine acc refused) = elim judged [
     | misbound bad two ↦ ok_not_err acc (answer_is first offer off ∙ bad)
     | agreed is ↦
-        let final_is : final ≡ both.server_final = ok_same acc (answer_is first offer off ∙ ap (λ (o : WaitingForClientFinal). accepted o (last generator input both.server_first)) is ∙ accepts) in
-        none_not_some verifies (ap (λ (f : List ℕ). final_refusal (expected_of (client_login input) both.server_first) f) (sym final_is) ∙ ap (λ (f : List ℕ). final_refusal (expected_of (client_login input) f) final) (sym (same_offer first offer off).0) ∙ refused)
+        let final_is : final ≡ both.server_final =
+        ok_same acc (answer_is first offer off
+        ∙ ap (λ (o : WaitingForClientFinal). accepted o (last generator input both.server_first)) is
+        ∙ accepts) in
+        none_not_some verifies
+        (ap (λ (f : List ℕ). final_refusal (expected_of (client_login input) both.server_first) f)
+        (sym final_is)
+        ∙ ap (λ (f : List ℕ). final_refusal (expected_of (client_login input) f) final)
+        (sym (same_offer first offer off).0)
+        ∙ refused)
   ]
 
-  pub misbound_alone : (why : PgWireError) → ServerCause input why → (why ≡ InvalidScramMessage fault.ChannelBinding) × HaveDifferentHashes input
+  pub misbound_alone : (why : PgWireError) → ServerCause input why
+      → (why ≡ InvalidScramMessage fault.ChannelBinding) × HaveDifferentHashes input
   misbound_alone _ (declined why off) = absurd (ok_not_err offer_is off)
   misbound_alone _ (unoffered why first offer off bad) =
-      let first_same : first ≡ server_first whole h.salt input.count = (same_offer first offer off).0 ∙ server_first_is in
-      absurd (ok_not_err (one_put (continue_with (server_first whole h.salt input.count)) h.server_first.0 h.server_first.1) (ap (λ (f : List ℕ). backend_encoding (continue_with f)) (sym first_same) ∙ bad))
+      let first_same : first ≡ server_first whole h.salt input.count =
+      (same_offer first offer off).0 ∙ server_first_is in
+      absurd (ok_not_err (one_put (continue_with (server_first whole h.salt input.count)) h.server_first.0
+      h.server_first.1) (ap (λ (f : List ℕ). backend_encoding (continue_with f)) (sym first_same) ∙ bad))
   misbound_alone _ (unproved why first offer off fine bad) = elim judged [
     | misbound is two ↦ (err_same bad (answer_is first offer off ∙ is), two)
-    | agreed is ↦ absurd (ok_not_err (answer_is first offer off ∙ ap (λ (o : WaitingForClientFinal). accepted o (last generator input both.server_first)) is ∙ accepts) bad)
+    | agreed is ↦ absurd (ok_not_err (answer_is first offer off
+        ∙ ap (λ (o : WaitingForClientFinal). accepted o (last generator input both.server_first)) is
+        ∙ accepts) bad)
   ]

@@ -52,31 +52,57 @@ two_of (a ∷ []) is = absurd (omega (arith, is))
 two_of (a ∷ b ∷ []) is = (a, b, refl)
 two_of (a ∷ b ∷ c ∷ l) is = absurd (omega (arith, is))
 
-joined : (a b c d n : ℕ) → from_be_bytes w16 (a ∷ b ∷ []) ≡ 3 → from_be_bytes w16 (c ∷ d ∷ []) ≡ n → n < 2 ^ 16 → from_be_bytes w32 (a ∷ b ∷ c ∷ d ∷ []) < 2 ^ 18
+joined : (a b c d n : ℕ) → from_be_bytes w16 (a ∷ b ∷ []) ≡ 3 → from_be_bytes w16 (c ∷ d ∷ []) ≡ n → n < 2 ^ 16
+    → from_be_bytes w32 (a ∷ b ∷ c ∷ d ∷ []) < 2 ^ 18
 joined a b c d n three minor small = omega (arith, three, minor, small)
 
-no_code : (code : ℕ) → 2 ^ 18 ≤ code → (m : Startup) (g rest : List ℕ) → m.protocol_number_minor < 2 ^ 16 → SpellsUntyped 10000 SpellsStartup m g → has_code code (g ++ rest) ≡ false
+no_code : (code : ℕ) → 2 ^ 18 ≤ code → (m : Startup) (g rest : List ℕ) → m.protocol_number_minor < 2 ^ 16
+    → SpellsUntyped 10000 SpellsStartup m g → has_code code (g ++ rest) ≡ false
 no_code code great m g rest small h =
     let major = h.5.1 in
     let minor = major.4 in
     let x = two_of major.0 major.3.0 in
     let y = two_of minor.0 minor.3.0 in
-    let whole : g ++ rest ≡ h.0 ++ ((major.0 ++ minor.0) ++ (minor.1 ++ rest)) = ap (λ (f : List ℕ). f ++ rest) (h.2 ∙ ap (λ (b : List ℕ). h.0 ++ b) (major.2 ∙ ap (λ (b : List ℕ). major.0 ++ b) minor.2)) ∙ simp append_assoc in
-    let is : major.0 ++ minor.0 ≡ x.0 ∷ x.1 ∷ y.0 ∷ y.1 ∷ [] = ap (λ (l : List ℕ). l ++ minor.0) x.2 ∙ ap (λ (l : List ℕ). x.0 ∷ x.1 ∷ l) y.2 in
-    let less : from_be_bytes w32 (x.0 ∷ x.1 ∷ y.0 ∷ y.1 ∷ []) < 2 ^ 18 = joined x.0 x.1 y.0 y.1 m.protocol_number_minor (sym (ap (from_be_bytes w16) x.2) ∙ major.3.1 ∙ h.5.0) (sym (ap (from_be_bytes w16) y.2) ∙ minor.3.1) small in
-    stands code h.0 (major.0 ++ minor.0) (minor.1 ++ rest) (g ++ rest) whole h.3.0 (omega (arith, length-append major.0 minor.0, major.3.0, minor.3.0)) ∙ ap (λ (l : List ℕ). eqb (from_be_bytes w32 l) code) is ∙ ne_eqb _ _ (λ e. omega (arith, e, less, great))
+    let whole : g ++ rest ≡ h.0 ++ ((major.0 ++ minor.0) ++ (minor.1 ++ rest)) =
+    ap (λ (f : List ℕ). f ++ rest) (h.2
+    ∙ ap (λ (b : List ℕ). h.0 ++ b) (major.2 ∙ ap (λ (b : List ℕ). major.0 ++ b) minor.2))
+    ∙ simp append_assoc in
+    let is : major.0 ++ minor.0 ≡ x.0 ∷ x.1 ∷ y.0 ∷ y.1 ∷ [] =
+    ap (λ (l : List ℕ). l ++ minor.0) x.2 ∙ ap (λ (l : List ℕ). x.0 ∷ x.1 ∷ l) y.2 in
+    let less : from_be_bytes w32 (x.0 ∷ x.1 ∷ y.0 ∷ y.1 ∷ []) < 2 ^ 18 =
+    joined x.0 x.1 y.0 y.1 m.protocol_number_minor (sym (ap (from_be_bytes w16) x.2) ∙ major.3.1
+    ∙ h.5.0) (sym (ap (from_be_bytes w16) y.2) ∙ minor.3.1) small in
+    stands code h.0 (major.0 ++ minor.0) (minor.1 ++ rest) (g ++ rest) whole h.3.0
+    (omega (arith, length-append major.0 minor.0, major.3.0, minor.3.0))
+    ∙ ap (λ (l : List ℕ). eqb (from_be_bytes w32 l) code) is ∙ ne_eqb _ _ (λ e. omega (arith, e, less, great))
 
-startup_long : (m : Startup) (g rest : List ℕ) → SpellsUntyped 10000 SpellsStartup m g → ltb (length (g ++ rest)) 8 ≡ false
+startup_long : (m : Startup) (g rest : List ℕ) → SpellsUntyped 10000 SpellsStartup m g
+    → ltb (length (g ++ rest)) 8 ≡ false
 startup_long m g rest h =
     let major = h.5.1 in
     let minor = major.4 in
-    le-ltb _ _ (omega (arith, length-append g rest, ap length h.2, length-append h.0 h.1, h.3.0, ap length major.2, length-append major.0 major.1, major.3.0, ap length minor.2, length-append minor.0 minor.1, minor.3.0))
+    le-ltb _ _ (omega (
+      arith,
+      length-append g rest,
+      ap length h.2,
+      length-append h.0 h.1,
+      h.3.0,
+      ap length major.2,
+      length-append major.0 major.1,
+      major.3.0,
+      ap length minor.2,
+      length-append minor.0 minor.1,
+      minor.3.0,
+    ))
 
 other : {X : Type 0} (b : Bool) (x y : X) → b ≡ false → cond b x y ≡ y
 other true x y h = absurd cc
 other false x y h = refl
 
-none_asked : (v : ProtocolVersion) (m : Startup) (g rest : List ℕ) → m.protocol_number_minor < 2 ^ 16 → SpellsUntyped 10000 SpellsStartup m g → frontend_front (phase true true v) (g ++ rest) ≡ Ok (Some (frontend.SslNegotiation negotiation.None, g ++ rest))
+none_asked : (v : ProtocolVersion) (m : Startup) (g rest : List ℕ) → m.protocol_number_minor < 2 ^ 16
+    → SpellsUntyped 10000 SpellsStartup m g
+    → frontend_front (phase true true v) (g ++ rest) ≡ Ok
+    (Some (frontend.SslNegotiation negotiation.None, g ++ rest))
 unfolding frontend_front negotiation_front
 none_asked v m g rest small h =
     other (ltb (length (g ++ rest)) 8) _ _ (startup_long m g rest h)
@@ -85,53 +111,77 @@ none_asked v m g rest small h =
 
 -- ---- what the server reads
 
-found : {M : Type 0} (g rest : List ℕ) (m : M) → server_front (g ++ rest) (Ok (Some (m, rest))) ≡ Whole m (length g)
-found g rest m = let size : length (g ++ rest) - length rest ≡ length g = omega (arith, length-append g rest) in ap (Whole m) size
+found : {M : Type 0} (g rest : List ℕ) (m : M)
+    → server_front (g ++ rest) (Ok (Some (m, rest))) ≡ Whole m (length g)
+found g rest m =
+    let size : length (g ++ rest) - length rest ≡ length g =
+    omega (arith, length-append g rest) in ap (Whole m) size
 
-startup_spelled : (v : ProtocolVersion) (m : Startup) (g : List ℕ) → IsSoundFrontend (frontend.Startup m) → encoding (frontend.Startup m) ≡ Ok g → SpellsUntyped 10000 SpellsStartup m g
+startup_spelled : (v : ProtocolVersion) (m : Startup) (g : List ℕ) → IsSoundFrontend (frontend.Startup m)
+    → encoding (frontend.Startup m) ≡ Ok g → SpellsUntyped 10000 SpellsStartup m g
 unfolding SpellsFrontend
 startup_spelled v m g sound is = frontend_written v (frontend.Startup m) g sound tt is
 
-pub reads_startup : (stage : Stage) (m : Startup) (g : List ℕ) → stage.started ≡ false → IsSoundFrontend (frontend.Startup m) → m.protocol_number_minor < 2 ^ 16 → encoding (frontend.Startup m) ≡ Ok g → IsReadAs (stage_front stage) g (frontend.Startup m)
+pub reads_startup : (stage : Stage) (m : Startup) (g : List ℕ) → stage.started ≡ false
+    → IsSoundFrontend (frontend.Startup m) → m.protocol_number_minor < 2 ^ 16
+    → encoding (frontend.Startup m) ≡ Ok g → IsReadAs (stage_front stage) g (frontend.Startup m)
 unfolding SpellsFrontend
 reads_startup stage m g new sound small is rest =
     let v = stage.client.protocol_version in
     let s = startup_spelled v m g sound is in
     ap (λ (b : Bool). server_front (g ++ rest) (client_front b (bound_at stage) v (g ++ rest))) new
-    ∙ ap (λ (r : Result (Option (Frontend × List ℕ)) PgWireError). server_front (g ++ rest) (or_first_message v r)) (none_asked v m g rest small s)
-    ∙ ap (server_front (g ++ rest)) (frontend_again (phase false true v) (frontend.Startup m) g rest ((refl, refl), small) s)
+    ∙ ap (λ (r : Result (Option (Frontend × List ℕ)) PgWireError). server_front (g ++ rest)
+    (or_first_message v r)) (none_asked v m g rest small s)
+    ∙ ap (server_front (g ++ rest))
+    (frontend_again (phase false true v) (frontend.Startup m) g rest ((refl, refl), small) s)
     ∙ found g rest (frontend.Startup m)
 
-pub reads_password : (stage : Stage) (m : PasswordMessageFamily) (g : List ℕ) → stage.started ≡ true → bound_at stage ≡ None → encoding (frontend.PasswordMessageFamily m) ≡ Ok g → IsReadAs (stage_front stage) g (as_read (frontend.PasswordMessageFamily m))
+pub reads_password : (stage : Stage) (m : PasswordMessageFamily) (g : List ℕ) → stage.started ≡ true
+    → bound_at stage ≡ None → encoding (frontend.PasswordMessageFamily m) ≡ Ok g
+    → IsReadAs (stage_front stage) g (as_read (frontend.PasswordMessageFamily m))
 reads_password stage m g begun free is rest =
     let v = stage.client.protocol_version in
     let s = frontend_written v (frontend.PasswordMessageFamily m) g tt tt is in
     (λ i. server_front (g ++ rest) (client_front (begun i) (free i) v (g ++ rest)))
-    ∙ ap (server_front (g ++ rest)) (frontend_again (phase false false v) (as_read (frontend.PasswordMessageFamily m)) g rest (refl, refl) s)
+    ∙ ap (server_front (g ++ rest))
+    (frontend_again (phase false false v) (as_read (frontend.PasswordMessageFamily m)) g rest (refl, refl) s)
     ∙ found g rest (as_read (frontend.PasswordMessageFamily m))
 
 -- ---- what the client reads
 
-pub reads_backend : (v : ProtocolVersion) (m : Backend) (g : List ℕ) → IsSound m → Suits v m → AwaitsBackend (typed_phase v) m → backend_encoding m ≡ Ok g → IsReadAs (reading_of_server v) g m
+pub reads_backend : (v : ProtocolVersion) (m : Backend) (g : List ℕ) → IsSound m → Suits v m
+    → AwaitsBackend (typed_phase v) m → backend_encoding m ≡ Ok g → IsReadAs (reading_of_server v) g m
 unfolding SpellsIn
-reads_backend v m g sound suits phase is rest = reads_whole v (g ++ rest) m (length g) (spells_front v m g rest (phase, backend_written v m g sound suits is))
+reads_backend v m g sound suits phase is rest =
+    reads_whole v (g ++ rest) m (length g) (spells_front v m g rest (phase, backend_written v m g sound suits is))
 
 -- ---- the body of client-first
 
-framed_body : (byte : ℕ) (g a b c d : List ℕ) → g ≡ byte ∷ (a ++ b) → g ≡ byte ∷ (c ++ d) → length a ≡ 4 → length c ≡ 4 → b ≡ d
+framed_body : (byte : ℕ) (g a b c d : List ℕ) → g ≡ byte ∷ (a ++ b) → g ≡ byte ∷ (c ++ d) → length a ≡ 4
+    → length c ≡ 4 → b ≡ d
 framed_body byte g a b c d x y four also =
     let tail : a ++ b ≡ c ++ d = ap (drop 1) (sym x ∙ y) in
     sym (drop_at a b 4 four) ∙ ap (drop 4) tail ∙ drop_at c d 4 also
 
-pub initial_reads : (m : SASLInitialResponse) (g : List ℕ) → IsUtf8 m.auth_method → encoding (frontend.PasswordMessageFamily (family.SASLInitialResponse m)) ≡ Ok g → initial_response_of (initial_response m) ≡ Ok m
+pub initial_reads : (m : SASLInitialResponse) (g : List ℕ) → IsUtf8 m.auth_method
+    → encoding (frontend.PasswordMessageFamily (family.SASLInitialResponse m)) ≡ Ok g
+    → initial_response_of (initial_response m) ≡ Ok m
 unfolding encoding SpellsFrontend
 initial_reads m g utf8 is =
     let spelled = initial_written m g utf8 is in
-    let read : wire_front (Typed 112) 10000 initial_response_of g ≡ Ok (Some (m, [])) = ap (wire_front (Typed 112) 10000 initial_response_of) (sym (append-nil g)) ∙ initial_row.only m g [] spelled in
+    let read : wire_front (Typed 112) 10000 initial_response_of g ≡ Ok (Some (m, [])) =
+    ap (wire_front (Typed 112) 10000 initial_response_of) (sym (append-nil g))
+    ∙ initial_row.only m g [] spelled in
     let first : get_or g 0 0 ≡ 112 = ap (λ (l : List ℕ). get_or l 0 0) spelled.2 in
-    let found = front_found 112 10000 (lit< tt) initial_response_of (λ (x : SASLInitialResponse) (body : List ℕ). initial_response_of body ≡ Ok x) g m [] first (λ body x short e. e) read in
-    let plain : SpellsTyped 112 10000 SpellsRaw (family.Raw (initial_response m)) g = frontend_written PROTOCOL3_0 (frontend.PasswordMessageFamily (family.SASLInitialResponse m)) g tt tt is in
-    let same : found.2.1 ≡ plain.1 = framed_body 112 g found.2.0 found.2.1 plain.0 plain.1 (found.1 ∙ append-nil found.0 ∙ found.2.2) plain.2 found.2.3.0 plain.3.0 in
+    let found =
+    front_found 112 10000 (lit< tt) initial_response_of
+    (λ (x : SASLInitialResponse) (body : List ℕ). initial_response_of body ≡ Ok x) g m [] first
+    (λ body x short e. e) read in
+    let plain : SpellsTyped 112 10000 SpellsRaw (family.Raw (initial_response m)) g =
+    frontend_written PROTOCOL3_0 (frontend.PasswordMessageFamily (family.SASLInitialResponse m)) g tt tt is in
+    let same : found.2.1 ≡ plain.1 =
+    framed_body 112 g found.2.0 found.2.1 plain.0 plain.1 (found.1 ∙ append-nil found.0
+    ∙ found.2.2) plain.2 found.2.3.0 plain.3.0 in
     let raw_is : plain.1 ≡ initial_response m = raw_body (initial_response m) plain.1 plain.5 in
     ap initial_response_of (sym raw_is ∙ sym same) ∙ found.2.5
   where

@@ -25,18 +25,23 @@ hmac_length key text = length-sha256 _
 
 pub proof_short : (salted message : List ℕ) → length (client_proof salted message) ≤ 32
 unfolding client_proof
-proof_short salted message = let h = xor_short (client_key salted) (client_signature (stored_key (client_key salted)) message) in omega (arith, h, hmac_length salted (codes "Client Key"))
+proof_short salted message =
+    let h =
+    xor_short (client_key salted) (client_signature (stored_key (client_key salted)) message) in omega
+    (arith, h, hmac_length salted (codes "Client Key"))
 
 pub signature_short : (key message : List ℕ) → length (signature_by key message) ≤ 32
 signature_short key message = let h = hmac_length key message in omega (arith, h)
 
 -- whole groups of four
-pub base64_length : (bytes : List ℕ) → length (base64 bytes) ≡ (4 * length bytes + 2) / 3 + (3 - length bytes % 3) % 3
+pub base64_length : (bytes : List ℕ)
+    → length (base64 bytes) ≡ (4 * length bytes + 2) / 3 + (3 - length bytes % 3) % 3
 unfolding base64
 base64_length bytes =
     let front = encode_symbols (engine_symbols standard) bytes in
     let pad : List ℕ = replicate (padding_len (length bytes)) 61 in
-    let size : length front ≡ (4 * length bytes + 2) / 3 = length-encode_symbols (engine_symbols standard) bytes in
+    let size : length front ≡ (4 * length bytes + 2) / 3 =
+    length-encode_symbols (engine_symbols standard) bytes in
     let padding : length pad ≡ (3 - length bytes % 3) % 3 = length-replicate (padding_len (length bytes)) 61 in
     omega (arith, length-append front pad, size, padding)
 

@@ -128,7 +128,8 @@ abbrev pub PartyAct : Type 1
 PartyAct = Frontend → Standing → Standing → List Backend → Answer → Type 0
 
 -- what it said to a message; that no encryption is to be had is no message
-abbrev pub party_reply : (means : PartyAct) (stage : Stage) (m : Frontend) (move : Move Stage ServerEnding)
+abbrev pub party_reply : (means : PartyAct) (stage : Stage) (m : Frontend)
+    (move : Move Stage ServerEnding)
     → Steps means stage m move → List Backend
 party_reply means stage (frontend.SslNegotiation m) move step = []
 party_reply means stage (frontend.CancelRequest m) move step = []
@@ -150,7 +151,8 @@ party_reply means stage (frontend.CopyFail m) move step = step.1
 
 abbrev pub party_messages : (means : PartyAct) → List (Deed (serving means)) → List Backend
 party_messages means [] = []
-party_messages means (d ∷ ds) = party_reply means d.state d.message d.move d.step ++ party_messages means ds
+party_messages means (d ∷ ds) =
+    party_reply means d.state d.message d.move d.step ++ party_messages means ds
 
 -- the messages taken, that which ended it too
 abbrev pub heard_by : {S R M E : Type 0} (play : Play S R M E) → List (Deed play) → List M
@@ -235,7 +237,8 @@ IsBoundTo hash x = (x.closing).binding ≡ base64 (codes "p=tls-server-end-point
 -- what it makes of client-first: its offer, and what it keeps; or a refusal
 abbrev pub offer_made : PairInput → Result (List ℕ × WaitingForClientFinal) PgWireError
 offer_made input =
-    scram_offer (scram_end input) (client_first (client_login input)) input.stored input.server_nonce
+    scram_offer (scram_end input) (client_first (client_login input)) input.stored
+    input.server_nonce
 
 -- client-first is refused, or the offer has no encoding, or client-final is refused
 pub data ServerCause (input : PairInput) : PgWireError → Type 0 where
@@ -281,7 +284,8 @@ pub record ShareAPassword (input : PairInput) : Type 0 where
   pub client_first : IsWritten (first_message (client_login input))
   pub client_final : IsWritten (final_message (client_login input) (offer_by input salt))
   pub server_first : (g : List ℕ)
-      × (server_encodings (backend.Authentication (auth.SASLContinue (offer_by input salt)) ∷ []) ≡ Ok g)
+      × (server_encodings (backend.Authentication (auth.SASLContinue (offer_by input salt)) ∷ [])
+      ≡ Ok g)
 
 abbrev pub AreHonestParties : PairInput → Type 0
 AreHonestParties input = ShareAPassword input × (HaveDifferentHashes input → ⊥)

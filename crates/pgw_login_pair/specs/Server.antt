@@ -39,7 +39,8 @@ abbrev pub ScramAnswers : PairInput → Login → PasswordMessageFamily → List
     → Type 0
 ScramAnswers input login message nonce state reply =
     (replied : Result (Authentication × SASLState) PgWireError)
-    × ScramReplies (AnswersStored input.stored) (scram_end input) login message nonce state replied
+    × ScramReplies (AnswersStored input.stored) (scram_end input) login message nonce state
+    replied
     × (reply ≡ and_some replied)
 
 -- and no other method

@@ -50,7 +50,8 @@ IsGoing (Ok d) phase = IsBehind d (Ok phase)
 IsGoing (Err e) phase = Unit {0}
 
 -- it stands for the bytes taken and put out, or these tell why it refused
-abbrev pub PartyStands : PairInput → Result Dialogue ClientError → DialoguePhase → (taken put : List ℕ)
+abbrev pub PartyStands : PairInput → Result Dialogue ClientError → DialoguePhase
+    → (taken put : List ℕ)
     → Type 0
 PartyStands input (Ok d) phase taken put = Stands (client_input input) most d taken put
     × (answer_to (client_input input) most taken ≡ Ok phase)
@@ -67,7 +68,8 @@ pub record ClientAt (input : PairInput) (side : ClientSide) (taken : List ℕ) :
 pub record ClientTook (input : PairInput) (old new : ClientSide) (bytes : List ℕ) (count : ℕ)
     : Type 0 where
   pub taken : new.taken ≡ old.taken + length (handed
-      (answer_to (client_input input) most (take old.taken bytes)) (party_bytes count old.taken bytes))
+      (answer_to (client_input input) most (take old.taken bytes))
+      (party_bytes count old.taken bytes))
   pub is_at : ClientAt input new (take new.taken bytes)
 
 -- ---- the server
@@ -81,7 +83,8 @@ IsFrom means begin core =
 abbrev pub StaysFrom : {H : Type 0} → Acts → (old new : ServerCore H) → Type 0
 StaysFrom means old new = (begin : Stage) → IsFrom means begin old → IsFrom means begin new
 
-pub record ServerAt {H : Type 0} (side : ServerSide H) (course : Course Stage ServerEnding) : Type 0
+pub record ServerAt {H : Type 0} (side : ServerSide H) (course : Course Stage ServerEnding) : Type
+    0
   where
     pub is_at : IsAt side.core (side.out).items course
     pub answer : side.answer ≡ server_answer_at course
@@ -98,9 +101,11 @@ end_in (Err e) = of_server.Refused e
 pub record ServerTook {H : Type 0} (means : Acts) (old new : ServerSide H) (bytes : List ℕ)
     (count : ℕ) (course : Course Stage ServerEnding) : Type 0 where
   pub there : Course Stage ServerEnding
-  pub goes : Continues (serving means) course (unless_over course (party_bytes count old.taken bytes))
+  pub goes : Continues (serving means) course
+      (unless_over course (party_bytes count old.taken bytes))
       there
-  pub taken : new.taken ≡ old.taken + length (unless_over course (party_bytes count old.taken bytes))
+  pub taken : new.taken ≡ old.taken + length
+      (unless_over course (party_bytes count old.taken bytes))
   pub is_at : ServerAt new there
 
 -- ---- both

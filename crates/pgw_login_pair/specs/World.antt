@@ -149,7 +149,8 @@ client_at input w taken = record w {
 }
 
 abbrev pub server_at : World → ℕ → Course Stage ServerEnding → World
-server_at w taken there = record w { by_server = taken; server = there; to_client = sent_of there }
+server_at w taken there =
+    record w { by_server = taken; server = there; to_client = sent_of there }
 
 -- One event. The client is a function of the bytes; where the server comes to hangs on what it
 -- draws from, and on memory.

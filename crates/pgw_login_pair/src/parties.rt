@@ -1,7 +1,7 @@
 //! What goes into two parties, and what comes of them.
 use pgw_backend::client_error::PgWireClientError;
-use pgw_machine::event::Event;
 use pgw_handlers::client_info::ServerInformation;
+use pgw_machine::event::Event;
 use pgw_scram::password::Password;
 use pgw_types::error::PgWireError;
 use pgw_types::listed::Listed;

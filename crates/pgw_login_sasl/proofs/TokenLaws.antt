@@ -12,7 +12,8 @@ token_byte_is_ascii : (b : ℕ) → is_token_byte b ≡ true → b < 128
 token_byte_is_ascii b h = grind (arith, nat_tests)
 
 token_bytes_are_ascii : (bs : List ℕ) → list_all is_token_byte bs ≡ true → All (λ b. b < 128) bs
-token_bytes_are_ascii bs h = λ k d within. token_byte_is_ascii _ (AllPass-from_list_all is_token_byte bs h k d within)
+token_bytes_are_ascii bs h =
+    λ k d within. token_byte_is_ascii _ (AllPass-from_list_all is_token_byte bs h k d within)
 
 -- a token is UTF-8
 pub token_is_text : (bs : List ℕ) → list_all is_token_byte bs ≡ true → IsUtf8 bs

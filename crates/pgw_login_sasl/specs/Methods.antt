@@ -7,7 +7,8 @@ use Rattle.pgw_login_sasl.specs.declared.methods.Method.TheVariants.{Scram, Oaut
 
 abbrev pub sasl_method : List ℕ → Option Method
 sasl_method name =
-    if bytes_eq name (codes "SCRAM-SHA-256") || bytes_eq name (codes "SCRAM-SHA-256-PLUS") then Some Scram
+    if bytes_eq name (codes "SCRAM-SHA-256") || bytes_eq name (codes "SCRAM-SHA-256-PLUS") then
+    Some Scram
     else (if bytes_eq name (codes "OAUTHBEARER") then Some OauthBearer else None)
 
 -- ---- what is offered
@@ -19,7 +20,8 @@ bound_methods (Some hash) = codes "SCRAM-SHA-256-PLUS" ∷ []
 
 abbrev pub scram_methods : {S : Type 0} → Option (ScramAuth S) → List (List ℕ)
 scram_methods None = []
-scram_methods (Some scram) = codes "SCRAM-SHA-256" ∷ bound_methods scram.authenticator.certificate_hash
+scram_methods (Some scram) =
+    codes "SCRAM-SHA-256" ∷ bound_methods scram.authenticator.certificate_hash
 
 abbrev pub oauth_methods : Bool → List (List ℕ)
 oauth_methods false = []

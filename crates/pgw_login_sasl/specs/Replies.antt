@@ -16,4 +16,5 @@ Replies = Login → PasswordMessageFamily → List ℕ → SASLState → Reply �
 
 -- a method of this name is not supported
 abbrev pub RefusesMethod : List ℕ → Reply → Type 0
-RefusesMethod name reply = (reply ≡ Err OutOfMemory) ⊎ (reply ≡ Err (UnsupportedSASLAuthMethod name))
+RefusesMethod name reply =
+    (reply ≡ Err OutOfMemory) ⊎ (reply ≡ Err (UnsupportedSASLAuthMethod name))

@@ -52,7 +52,8 @@ first_reply (Err e) = Err e
 first_reply (Ok (text, server)) = Ok (auth.SASLContinue text, StoredServerFirstSent server)
 
 -- a refusal of the source is passed on
-abbrev pub FirstWith : Result StoredSecret PgWireError → ScramServerAuth → (name payload nonce : List ℕ)
+abbrev pub FirstWith : Result StoredSecret PgWireError → ScramServerAuth
+    → (name payload nonce : List ℕ)
     → Result (Authentication × SASLState) PgWireError → Type 0
 FirstWith (Err e) server name payload nonce answer = answer ≡ Err e
 FirstWith (Ok secret) server name payload nonce answer =

@@ -30,20 +30,24 @@ sasl_stage true Failed = Over
 
 -- ---- the method, and the message as it is read
 
-abbrev pub named_by : Option Method → SASLInitialResponse → Result (Method × PasswordMessageFamily) PgWireError
+abbrev pub named_by : Option Method → SASLInitialResponse
+    → Result (Method × PasswordMessageFamily) PgWireError
 named_by None m = Err (UnsupportedSASLAuthMethod m.auth_method)
 named_by (Some method) m = Ok (method, family.SASLInitialResponse m)
 
-abbrev pub named_method : Result SASLInitialResponse PgWireError → Result (Method × PasswordMessageFamily) PgWireError
+abbrev pub named_method : Result SASLInitialResponse PgWireError
+    → Result (Method × PasswordMessageFamily) PgWireError
 named_method (Err e) = Err e
 named_method (Ok m) = named_by (sasl_method m.auth_method) m
 
-abbrev pub further : Method → Result SASLResponse PgWireError → Result (Method × PasswordMessageFamily) PgWireError
+abbrev pub further : Method → Result SASLResponse PgWireError
+    → Result (Method × PasswordMessageFamily) PgWireError
 further method (Err e) = Err e
 further method (Ok m) = Ok (method, family.SASLResponse m)
 
 -- the first message names the method
-abbrev pub turned : Stage → PasswordMessageFamily → Result (Method × PasswordMessageFamily) PgWireError
+abbrev pub turned : Stage → PasswordMessageFamily
+    → Result (Method × PasswordMessageFamily) PgWireError
 turned First message = named_method (as_initial_response message)
 turned (Further method) message = further method (as_response message)
 turned Over message = Err InvalidSASLState

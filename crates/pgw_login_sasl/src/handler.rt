@@ -136,7 +136,8 @@ fn reply_by_oauth(
 fn tell<O: Outbox>(out: &mut O, reply: Option<Authentication>) -> PgWireResult<()>
     ensures told { (client : LoginClient) (login : TheState) →
         Did O.add (O.sent out.old) (O.sent out.new) (Sends (sasl_messages reply))
-        (standing_in_login client login (O.faults out.old)) (standing_in_login client login (O.faults out.new))
+        (standing_in_login client login (O.faults out.old))
+        (standing_in_login client login (O.faults out.new))
         result }
     ensures flushed { O.waiting out.old ≡ 0 → OnOk result (O.waiting out.new ≡ 0) }
 {
@@ -157,7 +158,8 @@ where
         ensures offered { (client : LoginClient) (login : TheState) →
             Did O.add (O.sent out.old) (O.sent out.new)
             (Offers (offered_methods self.now.scram self.now.oauth))
-            (standing_in_login client login (O.faults out.old)) (standing_in_login client login (O.faults out.new))
+            (standing_in_login client login (O.faults out.old))
+            (standing_in_login client login (O.faults out.new))
             result }
         ensures flushed { OnOk result (O.waiting out.new ≡ 0) }
     {
@@ -280,7 +282,8 @@ where
         ensures releasable { IsReleasable state.old → IsReleasable state.new }
         ensures done { Did O.add (O.sent out.old) (O.sent out.new)
             (RespondsBy (P.provides self.now.parameter_provider) (M.registers self.now.registry)
-            (Ok (reply, next))) (standing_in_login (C.sight client.old) state.old (O.faults out.old))
+            (Ok (reply, next))) (standing_in_login (C.sight client.old) state.old
+            (O.faults out.old))
             (standing_in_login (C.sight client.new) state.new (O.faults out.new)) result }
         ensures flushed { O.waiting out.old ≡ 0 → OnOk result (O.waiting out.new ≡ 0) }
     {

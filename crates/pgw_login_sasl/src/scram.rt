@@ -129,7 +129,8 @@ fn offered_under(
     message: &[u8],
     nonce: &[u8; 18],
 ) -> PgWireResult<(Text, ScramServerAuthWaitingForClientFinal)>
-    ensures { IsScramAnswer result (offered_under name.now server.now message.now kept.now nonce.now) }
+    ensures { IsScramAnswer result (offered_under name.now server.now message.now kept.now
+        nonce.now) }
 {
     let parts = ClientFirst::read(alloc, message)?;
     offered_by(alloc, server, kept, name, parts, nonce)

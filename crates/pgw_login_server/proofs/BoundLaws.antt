@@ -13,7 +13,8 @@ use Rattle.pgw_login_server.specs.Bound.{IsBounded, header_front}
 use Rattle.pgw_login_server.specs.Server.{Stage, bound_in, bound_at, stage_front}
 use Rattle.pgw_login_server.proofs.ClientFront.{front_waits, beyond_refused, header_refused}
 
-still_bound : (state : PgWireConnectionState) (bound : Option ℕ) → state ≢ ReadyForQuery → bound_in state bound ≡ bound
+still_bound : (state : PgWireConnectionState) (bound : Option ℕ) → state ≢ ReadyForQuery
+    → bound_in state bound ≡ bound
 still_bound ReadyForQuery bound ne = absurd (ne refl)
 still_bound state bound ne = refl
 
@@ -21,23 +22,27 @@ bound_is : (stage : Stage) (bound : ℕ) → IsBounded stage bound → bound_at 
 bound_is stage bound is = still_bound stage.client.state stage.bound is.1 ∙ is.0
 
 reads_so : (stage : Stage) (bound : ℕ) (bytes : List ℕ) → IsBounded stage bound
-    → stage_front stage bytes ≡ server_front bytes (client_front stage.started (Some bound) stage.client.protocol_version bytes)
+    → stage_front stage bytes ≡ server_front bytes
+    (client_front stage.started (Some bound) stage.client.protocol_version bytes)
 reads_so stage bound bytes is = ap (λ (b : Option ℕ). server_front bytes
     (client_front stage.started b stage.client.protocol_version bytes)) (bound_is stage bound is)
 
-pub little_waits : (stage : Stage) (bound : ℕ) (bytes : List ℕ) → IsBounded stage bound → stage_front stage bytes ≡ More
+pub little_waits : (stage : Stage) (bound : ℕ) (bytes : List ℕ) → IsBounded stage bound
+    → stage_front stage bytes ≡ More
     → length bytes ≤ max 10000 bound
 little_waits stage bound bytes is more = front_waits stage.started bound stage.client.protocol_version bytes
     (sym (reads_so stage bound bytes is) ∙ more)
 
 reads_typed : (stage : Stage) (bound : ℕ) (bytes : List ℕ) → IsBounded stage bound → stage.started ≡ true
-    → stage_front stage bytes ≡ server_front bytes (client_front true (Some bound) stage.client.protocol_version bytes)
+    → stage_front stage bytes ≡ server_front bytes
+    (client_front true (Some bound) stage.client.protocol_version bytes)
 reads_typed stage bound bytes is on = reads_so stage bound bytes is
     ∙ ap (λ (b : Bool). server_front bytes (client_front b (Some bound) stage.client.protocol_version bytes)) on
 
 pub long_refused : (stage : Stage) (bound : ℕ) (bytes : List ℕ) (found : Option (Message × List ℕ))
     → IsBounded stage bound → stage.started ≡ true → 5 ≤ length bytes → bound < stated_length 1 bytes
-    → header_front stage bytes ≡ Ok found → stage_front stage bytes ≡ Bad (MessageTooLarge bound (stated_length 1 bytes))
+    → header_front stage bytes ≡ Ok found
+    → stage_front stage bytes ≡ Bad (MessageTooLarge bound (stated_length 1 bytes))
 long_refused stage bound bytes found is on long more header = reads_typed stage bound bytes is on
     ∙ beyond_refused bound stage.client.protocol_version bytes found long more header
 

@@ -120,9 +120,11 @@ abbrev offers_at_most : Result (ProtocolVersion × Option Backend) PgWireError �
 offers_at_most (Err e) = Unit {0}
 offers_at_most (Ok (version, offered)) = list_any lets_in (offered_messages offered) ≡ false
 
-quiet_settles : (r : Result (ProtocolVersion × Option Backend) PgWireError) → offers_at_most r → Quiet (LoginSettlesVersion r)
+quiet_settles : (r : Result (ProtocolVersion × Option Backend) PgWireError) → offers_at_most r
+    → Quiet (LoginSettlesVersion r)
 quiet_settles (Err e) none = quiet_refuses e
-quiet_settles (Ok (version, offered)) none = quiet_then (Sends (offered_messages offered)) (Sets (with_version version))
+quiet_settles (Ok (version, offered)) none =
+    quiet_then (Sends (offered_messages offered)) (Sets (with_version version))
     (quiet_sends (offered_messages offered) none) (quiet_sets (with_version version))
 
 offers_by : (zero two : Bool) → offers_at_most (Ok (if zero then (PROTOCOL3_0, None) else (if two then (
@@ -141,7 +143,8 @@ offers_in false s = tt
 
 quiet_begins : (s : Startup) → Quiet (BeginsLogin s)
 quiet_begins s = quiet_then StartsLogin (Then (Negotiates s) (Saves s)) quiet_starts
-    (quiet_then (Negotiates s) (Saves s) (quiet_settles (negotiation s) (offers_in (s.protocol_number_major == 3) s))
+    (quiet_then (Negotiates s) (Saves s)
+    (quiet_settles (negotiation s) (offers_in (s.protocol_number_major == 3) s))
     (quiet_memory (Sets _) (quiet_sets _)))
 
 pub quiet_opens : (s : Startup) → Quiet (Opens s)
@@ -158,7 +161,8 @@ pub record Root : Type 0 where
   pub kept : Option (List ℕ)
 
 abbrev pub root : Standing → Root
-root s = record { who = login_seen s.client; nonce = s.login.nonce; started = s.login.started; kept = s.login.kept }
+root s =
+    record { who = login_seen s.client; nonce = s.login.nonce; started = s.login.started; kept = s.login.kept }
 
 abbrev pub Roots : Act → Type 0
 Roots act = (before after : Standing) (sent : List Backend) (answer : Answer) → act before after sent answer
@@ -222,14 +226,17 @@ module _ (P : LoginClient → Option Held → Type 0) (R : Option Known → ℤ 
 
   roots_introduces : Roots (Introduces P)
   roots_introduces before after sent answer (inl h) = ap root h.0
-  roots_introduces before after sent answer (inr h) = roots_sends (introduction before.client h.0) before after sent
+  roots_introduces before after sent answer (inr h) =
+      roots_sends (introduction before.client h.0) before after sent
       answer h.2
 
   pub roots_finishes : Roots (Finishes P R)
   roots_finishes = roots_then (AcceptsLogin R) (Then (FinishesAuthentication P) (Marks (with_sasl Finished)))
       (roots_then Draws (Enrolls R) roots_draws roots_enrolls)
-      (roots_then (FinishesAuthentication P) (Marks (with_sasl Finished)) (roots_then (Introduces P) (Readies login_ready)
-      roots_introduces (roots_then (Sends (login_ready ∷ [])) (Sets (with_state ReadyForQuery)) (roots_sends (login_ready ∷
+      (roots_then (FinishesAuthentication P) (Marks (with_sasl Finished))
+      (roots_then (Introduces P) (Readies login_ready)
+      roots_introduces (roots_then (Sends (login_ready ∷ [])) (Sets (with_state ReadyForQuery))
+      (roots_sends (login_ready ∷
       [])) roots_set)) (roots_marked Finished))
 
 -- ---- how a login begins
@@ -240,7 +247,9 @@ settled_client : (r : Result (ProtocolVersion × Option Backend) PgWireError) (b
     × (after.login ≡ before.login)
 settled_client (Err e) before after sent answer h ok = absurd (not_both answer e h.2 ok)
 settled_client (Ok (version, offered)) before after sent answer h ok =
-    let b = then_both (Sends (offered_messages offered)) (Sets (with_version version)) before after sent answer h ok in (
+    let b =
+    then_both (Sends (offered_messages offered)) (Sets (with_version version)) before after sent answer h ok
+    in (
       ap (λ s. s.client.metadata) b.4.0 ∙ ap (λ s. s.client.metadata) b.3.0,
       ap (λ s. s.client.host) b.4.0
           ∙ ap (λ s. s.client.host) b.3.0,
@@ -249,14 +258,16 @@ settled_client (Ok (version, offered)) before after sent answer h ok =
 
 saved_client : (s : Startup) (before after : Standing) (sent : List Backend) (answer : Answer)
     → Saves s before after sent answer → answer ≡ Ok tt
-    → (after.client.metadata ≡ saved before.client.metadata s.parameters) × (after.client.host ≡ before.client.host)
+    → (after.client.metadata ≡ saved before.client.metadata s.parameters)
+    × (after.client.host ≡ before.client.host)
     × (after.login ≡ before.login)
 saved_client s before after sent answer (inl h) ok = absurd (not_both answer _ h.2 ok)
 saved_client s before after sent answer (inr h) ok =
     (ap (λ s. s.client.metadata) h.0, ap (λ s. s.client.host) h.0, ap (λ s. s.login) h.0)
 
 started_from : (b : Bool) (before after : Standing) (sent : List Backend) (answer : Answer)
-    → StartsFrom b before after sent answer → answer ≡ Ok tt → after ≡ record before { login = with_started before.login }
+    → StartsFrom b before after sent answer → answer ≡ Ok tt
+    → after ≡ record before { login = with_started before.login }
 started_from true before after sent answer h ok = h.0
 started_from false before after sent answer h ok = absurd (not_both answer _ h.2 ok)
 
@@ -293,8 +304,10 @@ pub record IsOpened (s : Startup) (before after : Standing) : Type 0 where
 pub opened : (s : Startup) (before after : Standing) (sent : List Backend) (answer : Answer)
     → Opens s before after sent answer → answer ≡ Ok tt → IsOpened s before after
 opened s before after sent answer h ok =
-    let outer = then_both (BeginsLogin s) (Sets (with_state AuthenticationInProgress)) before after sent answer h ok in
-    let begun = then_both StartsLogin (Then (Negotiates s) (Saves s)) before outer.0 outer.1 (Ok tt) outer.3 refl in
+    let outer =
+    then_both (BeginsLogin s) (Sets (with_state AuthenticationInProgress)) before after sent answer h ok in
+    let begun =
+    then_both StartsLogin (Then (Negotiates s) (Saves s)) before outer.0 outer.1 (Ok tt) outer.3 refl in
     let on = started_at before.login.started before begun.0 begun.1 (Ok tt) begun.3 refl in
     let inner = then_both (Negotiates s) (Saves s) begun.0 outer.0 begun.2 (Ok tt) begun.4 refl in
     let settled = settled_client (negotiation s) begun.0 inner.0 inner.1 (Ok tt) inner.3 refl in
@@ -308,7 +321,8 @@ opened s before after sent answer h ok =
     record {
       fresh = on.0;
       login = ap (λ x. x.login) outer.4.0 ∙ kept.2 ∙ settled.2 ∙ ap (λ x. x.login) on.1;
-      who = seen_same after.client (with_metadata (saved before.client.metadata s.parameters) before.client) metadata
+      who = seen_same after.client (with_metadata (saved before.client.metadata s.parameters) before.client)
+          metadata
           host;
       state = ap (λ x. x.client.state) outer.4.0;
     }

@@ -54,7 +54,8 @@ module _ (means : Acts) where
 
 -- a message with its proof was taken
 abbrev pub IsProven : (List Taken → Taken → Type 0) → List Taken → Type 0
-IsProven Proves taken_step = (earlier : List Taken) × (later : List Taken) × (t : Taken) × (taken_step ≡ earlier ++ t ∷ later)
+IsProven Proves taken_step =
+    (earlier : List Taken) × (later : List Taken) × (t : Taken) × (taken_step ≡ earlier ++ t ∷ later)
     × Proves earlier t
 
 pub still_proven : (Proves : List Taken → Taken → Type 0) (ts : List Taken) (more : Taken) → IsProven Proves ts
@@ -72,7 +73,8 @@ pub now_proven : (Proves : List Taken → Taken → Type 0) (ts : List Taken) (t
     → IsProven Proves (ts ++ t ∷ [])
 now_proven Proves ts t p = (ts, [], t, refl, p)
 
-pub still_named : (client : LoginClient) (ts : List Taken) (more : Taken) (login : Login) → IsNamed client ts login
+pub still_named : (client : LoginClient) (ts : List Taken) (more : Taken) (login : Login)
+    → IsNamed client ts login
     → IsNamed client (ts ++ more ∷ []) login
 still_named client ts more login n = record {
   startup = n.startup;
@@ -93,7 +95,8 @@ pub record IsKnown (Proves : List Taken → Taken → Type 0) (Keeps : List Take
 
 -- what an act is to keep
 pub record Goes (Proves : List Taken → Taken → Type 0) (Keeps : List Taken → Login → LoginState → Type 0)
-    (first : LoginClient) (ts : List Taken) (t : Taken) (after : Standing) (sent : List Backend) (answer : Answer) : Type 0
+    (first : LoginClient) (ts : List Taken) (t : Taken) (after : Standing) (sent : List Backend) (answer : Answer)
+    : Type 0
   where
     pub says : list_any lets_in sent ≡ true → Proves ts t
     pub keeps : answer ≡ Ok tt → IsKnown Proves Keeps first (ts ++ t ∷ []) after.client after.login
@@ -121,7 +124,8 @@ module _ (means : Acts) (Proves : List Taken → Taken → Type 0) (Keeps : List
   Stays ts (Ends ending out) = Unit {0}
 
   stays_moved : (ts : List Taken) (answer : Answer) (s : Standing) (stage : Stage) (out : List ℕ)
-      → (answer ≡ Ok tt → IsKnown Proves Keeps first ts s.client s.login) → Stays ts (answer_move answer s stage out)
+      → (answer ≡ Ok tt → IsKnown Proves Keeps first ts s.client s.login)
+      → Stays ts (answer_move answer s stage out)
   unfolding Stays
   stays_moved ts (Ok done) s stage out k = k refl
   stays_moved ts (Err e) s stage out k = tt
@@ -137,19 +141,23 @@ module _ (means : Acts) (Proves : List Taken → Taken → Type 0) (Keeps : List
   unfolding Stays
   handled_goes ts stage m move h k =
       let t : Taken = record { stage = stage; message = m; said = h.1; put = put_by move } in
-      let g = acts_so ts t m (standing_in_login stage.client stage.login 0) h.0 h.1 h.2 k refl refl refl refl h.4 in
+      let g =
+      acts_so ts t m (standing_in_login stage.client stage.login 0) h.0 h.1 h.2 k refl refl refl refl h.4 in
       (g.says, subst (Stays (ts ++ t ∷ [])) (sym h.6) (stays_moved (ts ++ t ∷ []) h.2 h.0 stage h.3 g.keeps))
 
   step_goes : (ts : List Taken) (stage : Stage) (m : Message) (move : Move Stage ServerEnding)
       (step : Steps means stage m move) → IsKnown Proves Keeps first ts stage.client stage.login
-      → (list_any lets_in (server_reply means stage m move step) ≡ true → Proves ts (taken_step means stage m move step))
+      → (list_any lets_in (server_reply means stage m move step) ≡ true → Proves ts
+      (taken_step means stage m move step))
       × Stays (ts ++ taken_step means stage m move step ∷ []) move
   unfolding Stays
   step_goes ts stage (frontend.SslNegotiation n) move step k =
-      let t : Taken = record { stage = stage; message = frontend.SslNegotiation n; said = []; put = put_by move } in
+      let t : Taken =
+      record { stage = stage; message = frontend.SslNegotiation n; said = []; put = put_by move } in
       ((λ says. absurd cc), subst (Stays (ts ++ t ∷ [])) (sym step) (still_known ts t stage.client stage.login k))
   step_goes ts stage (frontend.CancelRequest r) move step k =
-      let t : Taken = record { stage = stage; message = frontend.CancelRequest r; said = []; put = put_by move } in
+      let t : Taken =
+      record { stage = stage; message = frontend.CancelRequest r; said = []; put = put_by move } in
       ((λ says. absurd cc), subst (Stays (ts ++ t ∷ [])) (sym step) tt)
   step_goes ts stage m move step k = handled_goes ts stage m move step k
 
@@ -196,7 +204,8 @@ module _ (means : Acts) (Proves : List Taken → Taken → Type 0) (Keeps : List
       → IsKnown Proves Keeps first ts stage.client stage.login → MayAsk course
       → IsProven Proves (ts ++ taken_in means stage bytes course way)
   unfolding Stays
-  ready_on stage bytes course (waits s bs more) ts k is = subst (IsProven Proves) (sym (append-nil ts)) (k.ready is)
+  ready_on stage bytes course (waits s bs more) ts k is =
+      subst (IsProven Proves) (sym (append-nil ts)) (k.ready is)
   ready_on stage bytes course (stops s bs why ending bad refuses) ts k is = absurd is
   ready_on stage bytes course (breaks s bs ending b) ts k is = absurd is
   ready_on stage bytes course (ends s bs m len ending out read step) ts k is = absurd is
@@ -207,13 +216,15 @@ module _ (means : Acts) (Proves : List Taken → Taken → Type 0) (Keeps : List
       (ready_behind out c is))
 
   pub guarded : (bound : Option ℕ) (login : LoginState) (bytes : List ℕ) (course : Course Stage ServerEnding)
-      → IsKnown Proves Keeps first [] first login → (way : Leads (serving means) (begins_within bound first login) bytes course)
+      → IsKnown Proves Keeps first [] first login
+      → (way : Leads (serving means) (begins_within bound first login) bytes course)
       → Accounts (taken_in means (begins_within bound first login) bytes course way) bytes (sent_of course)
       × IsGuarded Proves (taken_in means (begins_within bound first login) bytes course way) course
   guarded bound login bytes course k way = (
     accounts means (begins_within bound first login) bytes course way,
     record {
-      said = λ earlier later t is says. found [] (taken_in means (begins_within bound first login) bytes course way) earlier later t
+      said = λ earlier later t is says. found []
+          (taken_in means (begins_within bound first login) bytes course way) earlier later t
           is (each_on (begins_within bound first login) bytes course way [] k) says;
       ready = λ is. ready_on (begins_within bound first login) bytes course way [] k is;
     },

@@ -39,28 +39,42 @@ no_error answer e is ok = let both = sym is ∙ ok in absurd cc
 -- ---- acts that keep that a login has begun, that end with a client that may ask, and that no begun login does
 
 Keeps : (Standing → Standing → List Backend → Answer → Type 0) → Type 0
-Keeps act = (before stage_after : Standing) (sent : List Backend) (answer : Answer) → act before stage_after sent answer → answer ≡ Ok tt → before.login.started ≡ true → stage_after.login.started ≡ true
+Keeps act =
+    (before stage_after : Standing) (sent : List Backend) (answer : Answer) → act before stage_after sent answer
+    → answer ≡ Ok tt → before.login.started ≡ true → stage_after.login.started ≡ true
 
 Readied : (Standing → Standing → List Backend → Answer → Type 0) → Type 0
-Readied act = (before stage_after : Standing) (sent : List Backend) (answer : Answer) → act before stage_after sent answer → answer ≡ Ok tt → stage_after.client.state ≡ ReadyForQuery
+Readied act =
+    (before stage_after : Standing) (sent : List Backend) (answer : Answer) → act before stage_after sent answer
+    → answer ≡ Ok tt → stage_after.client.state ≡ ReadyForQuery
 
 Never : (Standing → Standing → List Backend → Answer → Type 0) → Type 0
-Never act = (before stage_after : Standing) (sent : List Backend) (answer : Answer) → act before stage_after sent answer → answer ≡ Ok tt → before.login.started ≡ true → ⊥
+Never act =
+    (before stage_after : Standing) (sent : List Backend) (answer : Answer) → act before stage_after sent answer
+    → answer ≡ Ok tt → before.login.started ≡ true → ⊥
 
-keeps_then : (first next : Standing → Standing → List Backend → Answer → Type 0) → Keeps first → Keeps next → Keeps (Then first next)
+keeps_then : (first next : Standing → Standing → List Backend → Answer → Type 0) → Keeps first → Keeps next
+    → Keeps (Then first next)
 unfolding Keeps
-keeps_then first next hf hn before stage_after sent answer (halts b a s e h) ok on = absurd (no_error (Err e) e refl ok)
-keeps_then first next hf hn before stage_after sent answer (acts.goes b mid a front back r x y) ok on = hn mid a back r y ok (hf b mid front (Ok tt) x refl on)
+keeps_then first next hf hn before stage_after sent answer (halts b a s e h) ok on =
+    absurd (no_error (Err e) e refl ok)
+keeps_then first next hf hn before stage_after sent answer (acts.goes b mid a front back r x y) ok on =
+    hn mid a back r y ok (hf b mid front (Ok tt) x refl on)
 
-never_then : (first next : Standing → Standing → List Backend → Answer → Type 0) → Never first → Never (Then first next)
+never_then : (first next : Standing → Standing → List Backend → Answer → Type 0) → Never first
+    → Never (Then first next)
 unfolding Never
 never_then first next hf before stage_after sent answer (halts b a s e h) ok on = no_error (Err e) e refl ok
-never_then first next hf before stage_after sent answer (acts.goes b mid a front back r x y) ok on = hf b mid front (Ok tt) x refl on
+never_then first next hf before stage_after sent answer (acts.goes b mid a front back r x y) ok on =
+    hf b mid front (Ok tt) x refl on
 
-readied_then : (first next : Standing → Standing → List Backend → Answer → Type 0) → Readied next → Readied (Then first next)
+readied_then : (first next : Standing → Standing → List Backend → Answer → Type 0) → Readied next
+    → Readied (Then first next)
 unfolding Readied
-readied_then first next hn before stage_after sent answer (halts b a s e h) ok = absurd (no_error (Err e) e refl ok)
-readied_then first next hn before stage_after sent answer (acts.goes b mid a front back r x y) ok = hn mid a back r y ok
+readied_then first next hn before stage_after sent answer (halts b a s e h) ok =
+    absurd (no_error (Err e) e refl ok)
+readied_then first next hn before stage_after sent answer (acts.goes b mid a front back r x y) ok =
+    hn mid a back r y ok
 
 -- ---- the acts
 
@@ -71,7 +85,8 @@ keeps_awaits_at false before stage_after sent answer h ok on = absurd (no_error 
 
 keeps_awaits : Keeps LoginAwaits
 unfolding Keeps
-keeps_awaits before stage_after sent answer h ok on = keeps_awaits_at (awaits before.login) before stage_after sent answer h ok on
+keeps_awaits before stage_after sent answer h ok on =
+    keeps_awaits_at (awaits before.login) before stage_after sent answer h ok on
 
 keeps_tells : (P : Standing → Answer → Type 0) → Keeps (AnswersLogin P)
 unfolding Keeps
@@ -95,33 +110,43 @@ unfolding Keeps
 keeps_draws before stage_after sent (Ok done) h ok on = ap (λ s. s.login.started) h.1.3 ∙ on
 keeps_draws before stage_after sent (Err e) h ok on = absurd (no_error (Err e) e refl ok)
 
-entered_keeps : (got : Result (Option HandlePair) RegistryError) (pass : Option Known) (before stage_after : Standing) (answer : Answer) → Entered got pass before stage_after answer → answer ≡ Ok tt → before.login.started ≡ true → stage_after.login.started ≡ true
+entered_keeps : (got : Result (Option HandlePair) RegistryError) (pass : Option Known)
+    (before stage_after : Standing) (answer : Answer)
+    → Entered got pass before stage_after answer → answer ≡ Ok tt → before.login.started ≡ true
+    → stage_after.login.started ≡ true
 entered_keeps (Ok pair) pass before stage_after answer h ok on = ap (λ s. s.login.started) h.0 ∙ on
 entered_keeps (Err registry.Gone) pass before stage_after answer h ok on = absurd h
 entered_keeps (Err registry.Exhausted) pass before stage_after answer h ok on = absurd (no_error answer _ h.1 ok)
-entered_keeps (Err registry.OutOfMemory) pass before stage_after answer h ok on = absurd (no_error answer _ h.1 ok)
+entered_keeps (Err registry.OutOfMemory) pass before stage_after answer h ok on =
+    absurd (no_error answer _ h.1 ok)
 
-module _ (R : Option Known → ℤ → SecretKey → Option Known → Result (Option HandlePair) RegistryError → Type 0) where
-  keeps_enrolls_at : (b : Bool) → Keeps (EnrollsAt b R)
-  unfolding Keeps
-  keeps_enrolls_at true before stage_after sent answer h ok on = ap (λ s. s.login.started) h.0 ∙ on
-  keeps_enrolls_at false before stage_after sent answer h ok on = entered_keeps h.1.1 h.1.0 before stage_after answer h.1.3 ok on
+module _ (R : Option Known → ℤ → SecretKey → Option Known → Result (Option HandlePair) RegistryError → Type 0)
+  where
+    keeps_enrolls_at : (b : Bool) → Keeps (EnrollsAt b R)
+    unfolding Keeps
+    keeps_enrolls_at true before stage_after sent answer h ok on = ap (λ s. s.login.started) h.0 ∙ on
+    keeps_enrolls_at false before stage_after sent answer h ok on =
+        entered_keeps h.1.1 h.1.0 before stage_after answer h.1.3 ok on
 
-  keeps_enrolls : Keeps (Enrolls R)
-  unfolding Keeps
-  keeps_enrolls before stage_after sent answer h ok on = keeps_enrolls_at (is_some before.login.registered) before stage_after sent answer h ok on
+    keeps_enrolls : Keeps (Enrolls R)
+    unfolding Keeps
+    keeps_enrolls before stage_after sent answer h ok on =
+        keeps_enrolls_at (is_some before.login.registered) before stage_after sent answer h ok on
 
-  keeps_accepts : Keeps (AcceptsLogin R)
-  keeps_accepts = keeps_then Draws (Enrolls R) keeps_draws keeps_enrolls
+    keeps_accepts : Keeps (AcceptsLogin R)
+    keeps_accepts = keeps_then Draws (Enrolls R) keeps_draws keeps_enrolls
 
 module _ (P : LoginClient → Option Held → Type 0) where
   keeps_introduces : Keeps (Introduces P)
   unfolding Keeps
   keeps_introduces before stage_after sent answer (inl h) ok on = absurd (no_error answer _ h.2 ok)
-  keeps_introduces before stage_after sent answer (inr h) ok on = keeps_sends (introduction before.client h.0) before stage_after sent answer h.2 ok on
+  keeps_introduces before stage_after sent answer (inr h) ok on =
+      keeps_sends (introduction before.client h.0) before stage_after sent answer h.2 ok on
 
 keeps_readies : (m : Backend) → Keeps (Readies m)
-keeps_readies m = keeps_then (Sends (m ∷ [])) (Sets (with_state ReadyForQuery)) (keeps_sends (m ∷ [])) (keeps_sets (with_state ReadyForQuery))
+keeps_readies m =
+    keeps_then (Sends (m ∷ [])) (Sets (with_state ReadyForQuery)) (keeps_sends (m ∷ []))
+    (keeps_sets (with_state ReadyForQuery))
 
 readied_sets : Readied (Sets (with_state ReadyForQuery))
 unfolding Readied
@@ -131,77 +156,120 @@ readied_readies : (m : Backend) → Readied (Readies m)
 readied_readies m = readied_then (Sends (m ∷ [])) (Sets (with_state ReadyForQuery)) readied_sets
 
 -- the mark behind it changes no client
-readied_marked : (first : Standing → Standing → List Backend → Answer → Type 0) → Readied first → Readied (Then first (Marks (with_sasl Finished)))
+readied_marked : (first : Standing → Standing → List Backend → Answer → Type 0) → Readied first
+    → Readied (Then first (Marks (with_sasl Finished)))
 unfolding Readied
 readied_marked first hf before stage_after sent answer (halts b a s e h) ok = absurd (no_error (Err e) e refl ok)
-readied_marked first hf before stage_after sent answer (acts.goes b mid a front back r x y) ok = ap (λ s. s.client.state) y.0 ∙ hf b mid front (Ok tt) x refl
+readied_marked first hf before stage_after sent answer (acts.goes b mid a front back r x y) ok =
+    ap (λ s. s.client.state) y.0 ∙ hf b mid front (Ok tt) x refl
 
-module _ (P : LoginClient → Option Held → Type 0) (R : Option Known → ℤ → SecretKey → Option Known → Result (Option HandlePair) RegistryError → Type 0) where
+module _ (P : LoginClient → Option Held → Type 0)
+    (R : Option Known → ℤ → SecretKey → Option Known → Result (Option HandlePair) RegistryError → Type 0) where
   keeps_finishes : Keeps (Finishes P R)
-  keeps_finishes = keeps_then (AcceptsLogin R) (Then (FinishesAuthentication P) (Marks (with_sasl Finished))) (keeps_accepts R)
-      (keeps_then (FinishesAuthentication P) (Marks (with_sasl Finished)) (keeps_then (Introduces P) (Readies login_ready) (keeps_introduces P) (keeps_readies login_ready)) keeps_finished)
+  keeps_finishes =
+      keeps_then (AcceptsLogin R) (Then (FinishesAuthentication P) (Marks (with_sasl Finished))) (keeps_accepts R)
+      (keeps_then (FinishesAuthentication P) (Marks (with_sasl Finished))
+      (keeps_then (Introduces P) (Readies login_ready) (keeps_introduces P) (keeps_readies login_ready))
+      keeps_finished)
 
   readied_finishes : Readied (Finishes P R)
   readied_finishes = readied_then (AcceptsLogin R) (Then (FinishesAuthentication P) (Marks (with_sasl Finished)))
-      (readied_marked (FinishesAuthentication P) (readied_then (Introduces P) (Readies login_ready) (readied_readies login_ready)))
+      (readied_marked (FinishesAuthentication P)
+      (readied_then (Introduces P) (Readies login_ready) (readied_readies login_ready)))
 
-never_starts_at : (b : Bool) (before stage_after : Standing) (sent : List Backend) (answer : Answer) → StartsLoginAt b before stage_after sent answer → answer ≡ Ok tt → b ≡ true → ⊥
+never_starts_at : (b : Bool) (before stage_after : Standing) (sent : List Backend) (answer : Answer)
+    → StartsLoginAt b before stage_after sent answer → answer ≡ Ok tt → b ≡ true → ⊥
 never_starts_at true before stage_after sent answer h ok on = no_error answer _ h.2 ok
 never_starts_at false before stage_after sent answer h ok on = absurd cc
 
 never_begins : (s : Startup) → Never (BeginsLogin s)
 unfolding Never
-never_begins s = never_then StartsLogin (Then (Negotiates s) (Saves s)) (λ before stage_after sent answer h ok on. never_starts_at before.login.started before stage_after sent answer h ok on)
+never_begins s =
+    never_then StartsLogin (Then (Negotiates s) (Saves s))
+    (λ before stage_after sent answer h ok on. never_starts_at before.login.started before stage_after sent
+    answer h ok on)
 
 -- ---- the handlers
 
 -- a password that is taken finishes the login anew
-finishes_again : (first : Standing → Standing → List Backend → Answer → Type 0) (check : Standing → Answer → Type 0) (P : LoginClient → Option Held → Type 0) (R : Option Known → ℤ → SecretKey → Option Known → Result (Option HandlePair) RegistryError → Type 0) (before stage_after : Standing) (sent : List Backend)
-    → Keeps first → IsReady before.client before.login → Then first (Then (AnswersLogin check) (Finishes P R)) before stage_after sent (Ok tt) → IsReady stage_after.client stage_after.login
+finishes_again : (first : Standing → Standing → List Backend → Answer → Type 0)
+    (check : Standing → Answer → Type 0) (P : LoginClient → Option Held → Type 0)
+    (R : Option Known → ℤ → SecretKey → Option Known → Result (Option HandlePair) RegistryError → Type 0)
+    (before stage_after : Standing) (sent : List Backend)
+    → Keeps first → IsReady before.client before.login
+    → Then first (Then (AnswersLogin check) (Finishes P R)) before stage_after sent (Ok tt)
+    → IsReady stage_after.client stage_after.login
 unfolding Keeps Readied
 finishes_again first check P R before stage_after sent hf is h = (
-  readied_then first (Then (AnswersLogin check) (Finishes P R)) (readied_then (AnswersLogin check) (Finishes P R) (readied_finishes P R)) before stage_after sent (Ok tt) h refl,
-  keeps_then first (Then (AnswersLogin check) (Finishes P R)) hf (keeps_then (AnswersLogin check) (Finishes P R) (keeps_tells check) (keeps_finishes P R)) before stage_after sent (Ok tt) h refl is.1,
+  readied_then first (Then (AnswersLogin check) (Finishes P R))
+      (readied_then (AnswersLogin check) (Finishes P R) (readied_finishes P R)) before stage_after sent (Ok tt) h
+      refl,
+  keeps_then first (Then (AnswersLogin check) (Finishes P R)) hf
+      (keeps_then (AnswersLogin check) (Finishes P R) (keeps_tells check) (keeps_finishes P R)) before stage_after
+      sent (Ok tt) h refl is.1,
 )
 
-pub passed : (before stage_after : Standing) (sent : List Backend) → IsReady before.client before.login → LoginStays before stage_after sent (Ok tt) → IsReady stage_after.client stage_after.login
+pub passed : (before stage_after : Standing) (sent : List Backend) → IsReady before.client before.login
+    → LoginStays before stage_after sent (Ok tt) → IsReady stage_after.client stage_after.login
 passed before stage_after sent is h = (ap (λ s. s.client.state) h.0 ∙ is.0, ap (λ s. s.login.started) h.0 ∙ is.1)
 
 -- the same in words that other handlers can cite
-pub finishes_ready : (P : LoginClient → Option Held → Type 0) (R : Option Known → ℤ → SecretKey → Option Known → Result (Option HandlePair) RegistryError → Type 0) (before stage_after : Standing) (sent : List Backend) (answer : Answer)
-    → Finishes P R before stage_after sent answer → answer ≡ Ok tt → IsReady before.client before.login → IsReady stage_after.client stage_after.login
+pub finishes_ready : (P : LoginClient → Option Held → Type 0)
+    (R : Option Known → ℤ → SecretKey → Option Known → Result (Option HandlePair) RegistryError → Type 0)
+    (before stage_after : Standing) (sent : List Backend) (answer : Answer)
+    → Finishes P R before stage_after sent answer → answer ≡ Ok tt → IsReady before.client before.login
+    → IsReady stage_after.client stage_after.login
 unfolding Keeps Readied
-finishes_ready P R before stage_after sent answer h ok is = (readied_finishes P R before stage_after sent answer h ok, keeps_finishes P R before stage_after sent answer h ok is.1)
+finishes_ready P R before stage_after sent answer h ok is = (
+  readied_finishes P R before stage_after sent answer h ok,
+  keeps_finishes P R before stage_after sent answer h
+      ok is.1,
+)
 
-pub opens_once : (s : Startup) (next : Standing → Standing → List Backend → Answer → Type 0) (before stage_after : Standing) (sent : List Backend) → Then (Opens s) next before stage_after sent (Ok tt) → before.login.started ≡ true → ⊥
+pub opens_once : (s : Startup) (next : Standing → Standing → List Backend → Answer → Type 0)
+    (before stage_after : Standing) (sent : List Backend)
+    → Then (Opens s) next before stage_after sent (Ok tt) → before.login.started ≡ true → ⊥
 unfolding Never
-opens_once s next before stage_after sent h on = never_then (Opens s) next (never_then (BeginsLogin s) _ (never_begins s)) before stage_after sent (Ok tt) h refl on
+opens_once s next before stage_after sent h on =
+    never_then (Opens s) next (never_then (BeginsLogin s) _ (never_begins s)) before stage_after sent (Ok tt) h
+    refl on
 
-module _ (A : Login → Result Kept PgWireError → Type 0) (P : LoginClient → Option Held → Type 0) (R : Option Known → ℤ → SecretKey → Option Known → Result (Option HandlePair) RegistryError → Type 0) where
-  cleartext_on : (m : Heard) (before stage_after : Standing) (sent : List Backend) → IsReady before.client before.login → CleartextOn A P R m before stage_after sent (Ok tt) → IsReady stage_after.client stage_after.login
+module _ (A : Login → Result Kept PgWireError → Type 0) (P : LoginClient → Option Held → Type 0)
+    (R : Option Known → ℤ → SecretKey → Option Known → Result (Option HandlePair) RegistryError → Type 0) where
+  cleartext_on : (m : Heard) (before stage_after : Standing) (sent : List Backend)
+      → IsReady before.client before.login → CleartextOn A P R m before stage_after sent (Ok tt)
+      → IsReady stage_after.client stage_after.login
   unfolding Never
   cleartext_on (of.Startup s) before stage_after sent is h =
-      absurd (never_then (Opens s) (Sends (cleartext_request ∷ [])) (never_then (BeginsLogin s) _ (never_begins s)) before stage_after sent (Ok tt) h refl is.1)
-  cleartext_on (of.Password m) before stage_after sent is h = finishes_again LoginAwaits _ P R before stage_after sent keeps_awaits is h
+      absurd (never_then (Opens s) (Sends (cleartext_request ∷ []))
+      (never_then (BeginsLogin s) _ (never_begins s)) before stage_after sent (Ok tt) h refl is.1)
+  cleartext_on (of.Password m) before stage_after sent is h =
+      finishes_again LoginAwaits _ P R before stage_after sent keeps_awaits is h
   cleartext_on of.Other before stage_after sent is h = passed before stage_after sent is h
 
   pub cleartext_keeps : KeepsReady (CleartextMeans A P R)
   cleartext_keeps m before stage_after sent is h = cleartext_on (heard m) before stage_after sent is h
 
-  md5_on : (m : Heard) (before stage_after : Standing) (sent : List Backend) → IsReady before.client before.login → Md5On A P R m before stage_after sent (Ok tt) → IsReady stage_after.client stage_after.login
+  md5_on : (m : Heard) (before stage_after : Standing) (sent : List Backend) → IsReady before.client before.login
+      → Md5On A P R m before stage_after sent (Ok tt) → IsReady stage_after.client stage_after.login
   unfolding Never
   md5_on (of.Startup s) before stage_after sent is h =
-      absurd (never_then (Opens s) (Challenges A) (never_then (BeginsLogin s) _ (never_begins s)) before stage_after sent (Ok tt) h refl is.1)
-  md5_on (of.Password m) before stage_after sent is h = finishes_again LoginAwaits _ P R before stage_after sent keeps_awaits is h
+      absurd (never_then (Opens s) (Challenges A) (never_then (BeginsLogin s) _ (never_begins s)) before
+      stage_after sent (Ok tt) h refl is.1)
+  md5_on (of.Password m) before stage_after sent is h =
+      finishes_again LoginAwaits _ P R before stage_after sent keeps_awaits is h
   md5_on of.Other before stage_after sent is h = passed before stage_after sent is h
 
   pub md5_keeps : KeepsReady (Md5Means A P R)
   md5_keeps m before stage_after sent is h = md5_on (heard m) before stage_after sent is h
 
-module _ (posts : Message → Standing → Standing → List Backend → Answer → Type 0) (R : Option Known → ℤ → SecretKey → Option Known → Result (Option HandlePair) RegistryError → Type 0) where
-  noop_on : (m : Heard) (before stage_after : Standing) (sent : List Backend) → IsReady before.client before.login → NoopOn posts R m before stage_after sent (Ok tt) → IsReady stage_after.client stage_after.login
+module _ (posts : Message → Standing → Standing → List Backend → Answer → Type 0)
+    (R : Option Known → ℤ → SecretKey → Option Known → Result (Option HandlePair) RegistryError → Type 0) where
+  noop_on : (m : Heard) (before stage_after : Standing) (sent : List Backend) → IsReady before.client before.login
+      → NoopOn posts R m before stage_after sent (Ok tt) → IsReady stage_after.client stage_after.login
   unfolding Never
-  noop_on (of.Startup s) before stage_after sent is h = absurd (never_then (BeginsLogin s) _ (never_begins s) before stage_after sent (Ok tt) h refl is.1)
+  noop_on (of.Startup s) before stage_after sent is h =
+      absurd (never_then (BeginsLogin s) _ (never_begins s) before stage_after sent (Ok tt) h refl is.1)
   noop_on (of.Password m) before stage_after sent is h = passed before stage_after sent is h
   noop_on of.Other before stage_after sent is h = passed before stage_after sent is h
 
@@ -215,26 +283,32 @@ stage_in (On stage out) other = stage
 stage_in (Ends ending out) other = other
 
 module _ (means : Message → Standing → Standing → List Backend → Answer → Type 0) (keeps : KeepsReady means) where
-  handled_ready : (from to : Stage) (m : Message) (out : List ℕ) → IsReady from.client from.login → Handles means from m (On to out) → IsReady to.client to.login
+  handled_ready : (from to : Stage) (m : Message) (out : List ℕ) → IsReady from.client from.login
+      → Handles means from m (On to out) → IsReady to.client to.login
   handled_ready from to m out is (s, sent, Ok done, put, h, told, move, calm) =
       let same : to ≡ stage_after s true from = ap (λ k. stage_in k to) move in
-      subst (λ (k : Stage). IsReady k.client k.login) (sym same) (keeps m (standing_in_login from.client from.login 0) s sent is h)
+      subst (λ (k : Stage). IsReady k.client k.login) (sym same)
+      (keeps m (standing_in_login from.client from.login 0) s sent is h)
   handled_ready from to m out is (s, sent, Err e, put, h, told, move, calm) = absurd cc
 
-  step_ready : (from to : Stage) (m : Message) (out : List ℕ) → IsReady from.client from.login → Steps means from m (On to out) → IsReady to.client to.login
+  step_ready : (from to : Stage) (m : Message) (out : List ℕ) → IsReady from.client from.login
+      → Steps means from m (On to out) → IsReady to.client to.login
   step_ready from to (frontend.SslNegotiation n) out is h =
       let same : to ≡ from = ap (λ k. stage_in k to) h in
       subst (λ (k : Stage). IsReady k.client k.login) (sym same) is
   step_ready from to (frontend.CancelRequest r) out is h = absurd cc
   step_ready from to m out is h = handled_ready from to m out is h
 
-  behind_ready : (out : List ℕ) (course : Course Stage ServerEnding) → StaysReady course → StaysReady (course_behind out course)
+  behind_ready : (out : List ℕ) (course : Course Stage ServerEnding) → StaysReady course
+      → StaysReady (course_behind out course)
   behind_ready out (Waits stage sent pending) h = h
   behind_ready out (Over ending sent) h = tt
 
-  pub stays_ready : (from : Stage) (bytes : List ℕ) (course : Course Stage ServerEnding) → IsReady from.client from.login → Leads (serving means) from bytes course → StaysReady course
+  pub stays_ready : (from : Stage) (bytes : List ℕ) (course : Course Stage ServerEnding)
+      → IsReady from.client from.login → Leads (serving means) from bytes course → StaysReady course
   stays_ready from bytes course is (waits s bs more) = is
   stays_ready from bytes course is (stops s bs why ending read refuses) = tt
   stays_ready from bytes course is (breaks s bs ending b) = tt
   stays_ready from bytes course is (ends s bs m len ending out read step) = tt
-  stays_ready from bytes course is (goes s next bs m len out c read step rest) = behind_ready out c (stays_ready next (drop len bs) c (step_ready s next m out is step) rest)
+  stays_ready from bytes course is (goes s next bs m len out c read step rest) =
+      behind_ready out c (stays_ready next (drop len bs) c (step_ready s next m out is step) rest)

@@ -42,7 +42,8 @@ use Rattle.pgw_login_server.proofs.EntryLaws.{IsKnown, Goes, guarded, still_name
 
 pub heard_password : (m : Message) (p : PasswordMessageFamily) → heard m ≡ of.Password p
     → m ≡ frontend.PasswordMessageFamily p
-heard_password (frontend.PasswordMessageFamily q) p is = let same : q ≡ p = cc in ap frontend.PasswordMessageFamily same
+heard_password (frontend.PasswordMessageFamily q) p is =
+    let same : q ≡ p = cc in ap frontend.PasswordMessageFamily same
 heard_password (frontend.Startup s) p is = absurd cc
 heard_password m p is = absurd cc
 
@@ -51,14 +52,16 @@ heard_startup (frontend.Startup q) s is = let same : q ≡ s = cc in ap frontend
 heard_startup (frontend.PasswordMessageFamily p) s is = absurd cc
 heard_startup m s is = absurd cc
 
-pub quiet_says : {A : Type 0} (sent : List Backend) → list_any lets_in sent ≡ false → list_any lets_in sent ≡ true → A
+pub quiet_says : {A : Type 0} (sent : List Backend) → list_any lets_in sent ≡ false → list_any lets_in sent ≡ true
+    → A
 quiet_says sent none says = let both : true ≡ false = sym says ∙ none in absurd cc
 
 -- ---- who logs in
 
 pub named_now : (first : LoginClient) (ts : List Taken) (t : Taken) (s : Startup) (before after : Standing)
     → t.message ≡ frontend.Startup s → before.client ≡ first
-    → login_seen after.client ≡ login_seen (with_metadata (saved before.client.metadata s.parameters) before.client)
+    → login_seen after.client ≡ login_seen
+    (with_metadata (saved before.client.metadata s.parameters) before.client)
     → IsNamed first (ts ++ t ∷ []) (login_seen after.client)
 named_now first ts t s before after is same who = record {
   startup = s;
@@ -68,13 +71,15 @@ named_now first ts t s before after is same who = record {
   names = who ∙ ap (λ (c : LoginClient). login_seen (with_metadata (saved c.metadata s.parameters) c)) same;
 }
 
-not_ready : {A : Type 0} (client : LoginClient) → client.state ≡ AuthenticationInProgress → client.state ≡ ReadyForQuery → A
+not_ready : {A : Type 0} (client : LoginClient) → client.state ≡ AuthenticationInProgress
+    → client.state ≡ ReadyForQuery → A
 not_ready client is ready = let both : AuthenticationInProgress ≡ ReadyForQuery = sym is ∙ ready in absurd cc
 
 pub on_and_off : {A : Type 0} (b : Bool) → b ≡ true → b ≡ false → A
 on_and_off b on off = let both : true ≡ false = sym on ∙ off in absurd cc
 
-module _ (Proves : List Taken → Taken → Type 0) (Keeps : List Taken → Login → LoginState → Type 0) (first : LoginClient)
+module _ (Proves : List Taken → Taken → Type 0) (Keeps : List Taken → Login → LoginState → Type 0)
+    (first : LoginClient)
   where
     -- a login began
     pub known_begun : (ts : List Taken) (t : Taken) (s : Startup) (before mid after : Standing)
@@ -162,12 +167,14 @@ module _ (Q : Standing → Answer → Type 0) (P : LoginClient → Option Held �
   checked_first : (before after : Standing) (sent : List Backend) (answer : Answer)
       → Then (AnswersLogin Q) (Finishes P R) before after sent answer
       → ((list_any lets_in sent ≡ false) × (answer ≡ Ok tt → ⊥)) ⊎ Q before (Ok tt)
-  checked_first before after sent answer (halts b a s e h) = inl (nothing_said s h.1, λ ok. not_both (Err e) e refl ok)
+  checked_first before after sent answer (halts b a s e h) =
+      inl (nothing_said s h.1, λ ok. not_both (Err e) e refl ok)
   checked_first before after sent answer (acts.goes b mid a front back r x y) = inr x.2
 
   awaited_first : (before after : Standing) (sent : List Backend) (answer : Answer)
       → Then LoginAwaits (Then (AnswersLogin Q) (Finishes P R)) before after sent answer
-      → ((list_any lets_in sent ≡ false) × (answer ≡ Ok tt → ⊥)) ⊎ ((before.login.started ≡ true) × Q before (Ok tt))
+      → ((list_any lets_in sent ≡ false) × (answer ≡ Ok tt → ⊥))
+      ⊎ ((before.login.started ≡ true) × Q before (Ok tt))
   awaited_first before after sent answer (halts b a s e h) = inl
       (quiet_halt (awaits b.login) b a s e h, λ ok. not_both (Err e) e refl ok)
     where
@@ -183,7 +190,8 @@ module _ (Q : Standing → Answer → Type 0) (P : LoginClient → Option Held �
       ]
 
 -- nothing but a match is taken
-taken_where : (b : Bool) (e : PgWireError) (answer : Answer) → answer ≡ (if b then Ok tt else Err e) → answer ≡ Ok tt
+taken_where : (b : Bool) (e : PgWireError) (answer : Answer) → answer ≡ (if b then Ok tt else Err e)
+    → answer ≡ Ok tt
     → b ≡ true
 taken_where true e answer is ok = refl
 taken_where false e answer is ok = absurd (not_both answer e is ok)
@@ -197,8 +205,10 @@ matched_text text kept login answer is ok = (bytes_eq-Decides text kept).0
 
 module _ (A : Login → Result Kept PgWireError → Type 0) where
   -- the source gave a password, which is the message's
-  compared_to : (text : List ℕ) (login : Login) (given : Result Kept PgWireError) (answer : Answer) → A login given
-      → ComparedTo text login given answer → answer ≡ Ok tt → (kept : Kept) × A login (Ok kept) × (text ≡ kept.password)
+  compared_to : (text : List ℕ) (login : Login) (given : Result Kept PgWireError) (answer : Answer)
+      → A login given
+      → ComparedTo text login given answer → answer ≡ Ok tt
+      → (kept : Kept) × A login (Ok kept) × (text ≡ kept.password)
   compared_to text login (Err e) answer a h ok = absurd (not_both answer e h ok)
   compared_to text login (Ok kept) answer a h ok = (kept, a, matched_text text kept.password login answer h ok)
 
@@ -210,12 +220,14 @@ module _ (A : Login → Result Kept PgWireError → Type 0) where
       let c = compared_to p.password login h.0 answer h.1 h.2 ok in
       (c.0, c.1, (m, p, refl, is, c.2))
 
-  checked : (m : PasswordMessageFamily) (login : Login) (answer : Answer) → ChecksPassword A m login answer → answer ≡ Ok tt
+  checked : (m : PasswordMessageFamily) (login : Login) (answer : Answer) → ChecksPassword A m login answer
+      → answer ≡ Ok tt
       → (kept : Kept) × A login (Ok kept) × IsPasswordMessage (frontend.PasswordMessageFamily m) kept.password
   checked m login answer (inl h) ok = absurd (not_both answer _ h ok)
   checked m login answer (inr h) ok = checked_by m (as_password m) login answer refl h ok
 
-  proves_cleartext : (begin : Stage) (ts : List Taken) (t : Taken) (m : PasswordMessageFamily) (client : LoginClient)
+  proves_cleartext : (begin : Stage) (ts : List Taken) (t : Taken) (m : PasswordMessageFamily)
+      (client : LoginClient)
       → t.message ≡ frontend.PasswordMessageFamily m → IsNamed begin.client ts (login_seen client)
       → ChecksPassword A m (login_seen client) (Ok tt) → ProvesCleartext A begin ts t
   proves_cleartext begin ts t m client is named h =
@@ -233,7 +245,8 @@ abbrev pub NothingMore : List Taken → Login → LoginState → Type 0
 NothingMore ts login state = Unit {0}
 
 module _ (A : Login → Result Kept PgWireError → Type 0) (P : LoginClient → Option Held → Type 0)
-    (R : Option Known → ℤ → SecretKey → Option Known → Result (Option HandlePair) RegistryError → Type 0) (begin : Stage)
+    (R : Option Known → ℤ → SecretKey → Option Known → Result (Option HandlePair) RegistryError → Type 0)
+    (begin : Stage)
   where
     cleartext_on : (ts : List Taken) (t : Taken) (m : Message) (h : Heard) (before after : Standing)
         (sent : List Backend) (answer : Answer) → IsKnown (ProvesCleartext A begin) NothingMore begin.client ts
@@ -245,10 +258,12 @@ module _ (A : Login → Result Kept PgWireError → Type 0) (P : LoginClient →
       keeps = λ ok. let b = then_both (Opens s) (Sends (cleartext_request ∷ [])) before after sent answer h ok in
           known_begun (ProvesCleartext A begin) NothingMore begin.client ts t s before b.0 after k
           (is ∙ heard_startup m s hears) (opened s before b.0 b.1 (Ok tt) b.3 refl)
-          (ap (λ x. login_seen x.client) b.4.0) (ap (λ x. x.login.started) b.4.0) (ap (λ x. x.client.state) b.4.0) tt;
+          (ap (λ x. login_seen x.client) b.4.0) (ap (λ x. x.login.started) b.4.0) (ap (λ x. x.client.state) b.4.0)
+          tt;
     }
     cleartext_on ts t m (of.Password p) before after sent answer k is hears h =
-        let same = roots_checked (λ s a. ChecksPassword A p (login_seen s.client) a) P R before after sent answer h in
+        let same =
+        roots_checked (λ s a. ChecksPassword A p (login_seen s.client) a) P R before after sent answer h in
         elim (awaited_first (λ s a. ChecksPassword A p (login_seen s.client) a) P R before after sent answer h) [
           | inl none ↦ record { says = λ says. quiet_says sent none.0 says; keeps = λ ok. absurd (none.1 ok) }
           | inr on ↦
@@ -262,21 +277,26 @@ module _ (A : Login → Result Kept PgWireError → Type 0) (P : LoginClient →
         ]
     cleartext_on ts t m of.Other before after sent answer k is hears h = record {
       says = λ says. quiet_says sent (nothing_said sent h.1) says;
-      keeps = λ ok. known_passed (ProvesCleartext A begin) NothingMore begin.client ts t before after k h.0 (λ more. tt);
+      keeps =
+          λ ok. known_passed (ProvesCleartext A begin) NothingMore begin.client ts t before after k h.0
+          (λ more. tt);
     }
 
     cleartext_means : (ts : List Taken) (t : Taken) (m : Message) (before after : Standing) (sent : List Backend)
-        (answer : Answer) → IsKnown (ProvesCleartext A begin) NothingMore begin.client ts before.client before.login
+        (answer : Answer)
+        → IsKnown (ProvesCleartext A begin) NothingMore begin.client ts before.client before.login
         → t.stage.client ≡ before.client → t.stage.login ≡ before.login → t.message ≡ m → t.said ≡ sent
         → CleartextMeans A P R m before after sent answer
         → Goes (ProvesCleartext A begin) NothingMore begin.client ts t after sent answer
-    cleartext_means ts t m before after sent (Ok done) k c l is said h = cleartext_on ts t m (heard m) before after sent
+    cleartext_means ts t m before after sent (Ok done) k c l is said h =
+        cleartext_on ts t m (heard m) before after sent
         (Ok done) k is refl h
     cleartext_means ts t m before after sent (Err e) k c l is said h =
         let g = cleartext_on ts t m (heard m) before h.0 sent (Err e) k is refl h.1 in
         record { says = g.says; keeps = λ ok. absurd (not_both (Err e) e refl ok) }
 
-pub never_ready : {A : Type 0} (client : LoginClient) → client.state ≢ ReadyForQuery → client.state ≡ ReadyForQuery → A
+pub never_ready : {A : Type 0} (client : LoginClient) → client.state ≢ ReadyForQuery
+    → client.state ≡ ReadyForQuery → A
 never_ready client not is = absurd (not is)
 
 pub cleartext_lets_in : (A : Login → Result Kept PgWireError → Type 0) (P : LoginClient → Option Held → Type 0)
@@ -284,7 +304,8 @@ pub cleartext_lets_in : (A : Login → Result Kept PgWireError → Type 0) (P : 
     → LetsInBy (CleartextMeans A P R) (ProvesCleartext A)
 cleartext_lets_in A P R bound client login given course new way =
     guarded (CleartextMeans A P R) (ProvesCleartext A (begins_within bound client login)) NothingMore client
-    (λ ts more who state keeps. tt) (cleartext_means A P R (begins_within bound client login)) bound login given course (record {
+    (λ ts more who state keeps. tt) (cleartext_means A P R (begins_within bound client login)) bound login given
+    course (record {
       fresh = λ off. refl;
       named = λ on. on_and_off login.started on new.1;
       ready = λ is. never_ready client new.0 is;
@@ -367,7 +388,8 @@ module _ (A : Login → Result Kept PgWireError → Type 0) where
   salted_by salt text login (inr h) = salt_given h.0 salt text login h.1 h.2
 
   challenged_by : (salted : Result (List ℕ × List ℕ) PgWireError) (before after : Standing) (sent : List Backend)
-      (answer : Answer) → AsksForSalt A (login_seen before.client) salted → ChallengedBy salted before after sent answer
+      (answer : Answer) → AsksForSalt A (login_seen before.client) salted
+      → ChallengedBy salted before after sent answer
       → answer ≡ Ok tt → Salting before after sent
   challenged_by (Err e) before after sent answer s h ok = absurd (not_both answer e h.2 ok)
   challenged_by (Ok (salt, text)) before after sent answer s h ok =
@@ -441,7 +463,8 @@ module _ (A : Login → Result Kept PgWireError → Type 0) where
   matched m kept login answer (inr h) ok = matched_by m (as_password m) kept login answer refl h ok
 
   proves_md5 : (begin : Stage) (ts : List Taken) (t : Taken) (m : PasswordMessageFamily) (client : LoginClient)
-      (state : LoginState) → t.message ≡ frontend.PasswordMessageFamily m → IsNamed begin.client ts (login_seen client)
+      (state : LoginState) → t.message ≡ frontend.PasswordMessageFamily m
+      → IsNamed begin.client ts (login_seen client)
       → KeepsText ts (login_seen client) state → Matched m state.kept (login_seen client) (Ok tt)
       → ProvesMd5 A begin ts t
   unfolding KeepsText
@@ -454,18 +477,22 @@ module _ (A : Login → Result Kept PgWireError → Type 0) where
         named = named;
         challenged = k.2;
         proof = subst
-            (IsPasswordMessage t.message) (sym k.1) (subst (λ (x : Message). IsPasswordMessage x c.0) (sym is) c.2);
+            (IsPasswordMessage t.message) (sym k.1)
+            (subst (λ (x : Message). IsPasswordMessage x c.0) (sym is) c.2);
       }
 
 module _ (A : Login → Result Kept PgWireError → Type 0) (P : LoginClient → Option Held → Type 0)
-    (R : Option Known → ℤ → SecretKey → Option Known → Result (Option HandlePair) RegistryError → Type 0) (begin : Stage)
+    (R : Option Known → ℤ → SecretKey → Option Known → Result (Option HandlePair) RegistryError → Type 0)
+    (begin : Stage)
   where
-    md5_on : (ts : List Taken) (t : Taken) (m : Message) (h : Heard) (before after : Standing) (sent : List Backend)
+    md5_on : (ts : List Taken) (t : Taken) (m : Message) (h : Heard) (before after : Standing)
+        (sent : List Backend)
         (answer : Answer) → IsKnown (ProvesMd5 A begin) (KeepsText A) begin.client ts before.client before.login
         → t.message ≡ m → t.said ≡ sent → heard m ≡ h → Md5On A P R h before after sent answer
         → Goes (ProvesMd5 A begin) (KeepsText A) begin.client ts t after sent answer
     md5_on ts t m (of.Startup s) before after sent answer k is said hears h = record {
-      says = λ says. quiet_says sent (quiet_then (Opens s) (Challenges A) (quiet_opens s) (quiet_challenges A) before
+      says = λ says. quiet_says sent
+          (quiet_then (Opens s) (Challenges A) (quiet_opens s) (quiet_challenges A) before
           after sent answer h) says;
       keeps = λ ok. let b = then_both (Opens s) (Challenges A) before after sent answer h ok in
           let g = challenged_by A b.4.0 b.0 after b.2 (Ok tt) b.4.1 b.4.2 refl in
@@ -475,8 +502,11 @@ module _ (A : Login → Result Kept PgWireError → Type 0) (P : LoginClient →
           (ap (λ (c : LoginClient). c.state) g.client) (keeps_challenged A ts t b.0 after b.1 b.2 (said ∙ b.5) g);
     }
     md5_on ts t m (of.Password p) before after sent answer k is said hears h =
-        let same = roots_checked (λ s a. Matched p s.login.kept (login_seen s.client) a) P R before after sent answer h in
-        elim (awaited_first (λ s a. Matched p s.login.kept (login_seen s.client) a) P R before after sent answer h) [
+        let same =
+        roots_checked (λ s a. Matched p s.login.kept (login_seen s.client) a) P R before after sent answer h
+        in
+        elim (awaited_first (λ s a. Matched p s.login.kept (login_seen s.client) a) P R before after sent answer
+        h) [
           | inl none ↦ record { says = λ says. quiet_says sent none.0 says; keeps = λ ok. absurd (none.1 ok) }
           | inr on ↦
               let proves : ProvesMd5 A begin ts t = proves_md5 A begin ts t p before.client before.login
@@ -485,7 +515,8 @@ module _ (A : Login → Result Kept PgWireError → Type 0) (P : LoginClient →
                 says = λ says. proves;
                 keeps = λ ok. known_proven (ProvesMd5 A begin) (KeepsText A) begin.client
                     ts t before after k on.0 same proves
-                    (text_still A ts t (login_seen before.client) (login_seen after.client) before.login after.login
+                    (text_still A ts t (login_seen before.client) (login_seen after.client) before.login
+                    after.login
                     (sym (ap (λ r. r.who) same)) (ap (λ r. r.kept) same) k.keeps);
               }
         ]
@@ -498,9 +529,11 @@ module _ (A : Login → Result Kept PgWireError → Type 0) (P : LoginClient →
     md5_means : (ts : List Taken) (t : Taken) (m : Message) (before after : Standing) (sent : List Backend)
         (answer : Answer) → IsKnown (ProvesMd5 A begin) (KeepsText A) begin.client ts before.client before.login
         → t.stage.client ≡ before.client → t.stage.login ≡ before.login → t.message ≡ m → t.said ≡ sent
-        → Md5Means A P R m before after sent answer → Goes (ProvesMd5 A begin) (KeepsText A) begin.client ts t after
+        → Md5Means A P R m before after sent answer
+        → Goes (ProvesMd5 A begin) (KeepsText A) begin.client ts t after
         sent answer
-    md5_means ts t m before after sent (Ok done) k c l is said h = md5_on ts t m (heard m) before after sent (Ok done) k
+    md5_means ts t m before after sent (Ok done) k c l is said h =
+        md5_on ts t m (heard m) before after sent (Ok done) k
         is said refl h
     md5_means ts t m before after sent (Err e) k c l is said h =
         let g = md5_on ts t m (heard m) before h.0 sent (Err e) k is said refl h.1 in

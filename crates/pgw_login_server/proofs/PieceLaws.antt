@@ -11,8 +11,10 @@ use Rattle.pgw_login_server.specs.Taken.{Acts}
 use Rattle.pgw_login_server.specs.Pieces.{LeadOn}
 use Rattle.pgw_login_server.proofs.ServerLaws.{steady_at}
 
-behind_behind : {S R : Type 0} (a b : List ℕ) (c : Course S R) → course_behind a (course_behind b c) ≡ course_behind (a ++ b) c
-behind_behind a b (Waits state sent pending) = ap (λ (l : List ℕ). Waits state l pending) (sym (append_assoc a b sent))
+behind_behind : {S R : Type 0} (a b : List ℕ) (c : Course S R)
+    → course_behind a (course_behind b c) ≡ course_behind (a ++ b) c
+behind_behind a b (Waits state sent pending) =
+    ap (λ (l : List ℕ). Waits state l pending) (sym (append_assoc a b sent))
 behind_behind a b (Over ending sent) = ap (Over ending) (sym (append_assoc a b sent))
 
 behind_none : {S R : Type 0} (c : Course S R) → course_behind [] c ≡ c
@@ -70,7 +72,12 @@ module _ {S R M E : Type 0} (play : Play S R M E) (steady : ReadsSteadily play) 
   cut_at state bytes piece all there is (ends s bs m len ending out whole step) = elim (fronts s bytes piece) [
     | none_yet k ↦ waits_for s bytes piece _ k (subst (λ (l : List ℕ). Leads play s l (Over ending out)) is
         (ends s bs m len ending out whole step))
-    | same_now k ↦ (Over ending out, ends s bytes m len ending out (k ∙ ap (play.read s) (sym is) ∙ whole) step, refl)
+    | same_now k ↦ (
+      Over ending out,
+      ends s bytes m len ending out (k ∙ ap (play.read s) (sym is)
+          ∙ whole) step,
+      refl,
+    )
   ]
   cut_at state bytes piece all there is (goes s next bs m len out c whole step on) = elim (fronts s bytes piece) [
     | none_yet k ↦ waits_for s bytes piece _ k (subst (λ (l : List ℕ). Leads play s l (course_behind out c)) is
@@ -79,8 +86,12 @@ module _ {S R M E : Type 0} (play : Play S R M E) (steady : ReadsSteadily play) 
         let here : play.read s bytes ≡ Whole m len = k ∙ ap (play.read s) (sym is) ∙ whole in
         let rest : drop len bs ≡ drop len bytes ++ piece = ap (drop len) is
         ∙ drop-append-le len bytes piece ((steady s).within bytes m len here) in
-        let cut = cut_at next (drop len bytes) piece (drop len bs) c rest on in
-        (course_behind out cut.0, goes s next bytes m len out cut.0 here step cut.1, continues_behind out piece cut.0 c cut.2)
+        let cut = cut_at next (drop len bytes) piece (drop len bs) c rest on in (
+          course_behind out cut.0,
+          goes s next bytes m len out cut.0 here step cut.1,
+          continues_behind out piece
+              cut.0 c cut.2,
+        )
   ]
 
 -- ---- a server
@@ -89,11 +100,13 @@ module _ (means : Acts) where
   pub cut : (begin : Stage) (given piece : List ℕ) (there : Course Stage ServerEnding)
       → Leads (serving means) begin (given ++ piece) there → (course : Course Stage ServerEnding)
       × Leads (serving means) begin given course × Continues (serving means) course piece there
-  cut begin given piece there leads = cut_at (serving means) steady_at begin given piece (given ++ piece) there refl
+  cut begin given piece there leads =
+      cut_at (serving means) steady_at begin given piece (given ++ piece) there refl
       leads
 
   pub joined : (begin : Stage) (given : List ℕ) (course : Course Stage ServerEnding) (pieces : List (List ℕ))
-      (there : Course Stage ServerEnding) → Leads (serving means) begin given course → LeadOn means course pieces there
+      (there : Course Stage ServerEnding) → Leads (serving means) begin given course
+      → LeadOn means course pieces there
       → Leads (serving means) begin (given ++ concat pieces) there
   joined begin given course [] there leads is = subst
       (λ (c : Course Stage ServerEnding). Leads (serving means) begin (given ++ []) c) (sym is)
@@ -114,20 +127,24 @@ module _ (means : Acts) where
   )
   cuts begin given (piece ∷ pieces) there leads =
       let rest = cuts begin (given ++ piece) pieces there
-      (subst (λ (l : List ℕ). Leads (serving means) begin l there) (sym (append_assoc given piece (concat pieces)))
+      (subst (λ (l : List ℕ). Leads (serving means) begin l there)
+      (sym (append_assoc given piece (concat pieces)))
       leads) in
       let here = cut begin given piece rest.0 rest.1 in
       (here.0, here.1, (rest.0, here.2, rest.2))
 
   -- from the beginning
-  pub joined_from_none : (begin : Stage) (piece : List ℕ) (pieces : List (List ℕ)) (there : Course Stage ServerEnding)
+  pub joined_from_none : (begin : Stage) (piece : List ℕ) (pieces : List (List ℕ))
+      (there : Course Stage ServerEnding)
       → LeadOn means (Waits begin [] []) (piece ∷ pieces) there
       → Leads (serving means) begin (concat (piece ∷ pieces)) there
   joined_from_none begin piece pieces there (mid, (course, leads, is), rest) =
-      joined begin piece mid pieces there (subst (Leads (serving means) begin piece) (sym (is ∙ behind_none course))
+      joined begin piece mid pieces there (subst (Leads (serving means) begin piece) (sym (is
+      ∙ behind_none course))
       leads) rest
 
-  pub cuts_from_none : (begin : Stage) (piece : List ℕ) (pieces : List (List ℕ)) (there : Course Stage ServerEnding)
+  pub cuts_from_none : (begin : Stage) (piece : List ℕ) (pieces : List (List ℕ))
+      (there : Course Stage ServerEnding)
       → Leads (serving means) begin (concat (piece ∷ pieces)) there
       → LeadOn means (Waits begin [] []) (piece ∷ pieces) there
   cuts_from_none begin piece pieces there leads =

@@ -85,12 +85,14 @@ starts_from false before after sent answer h is = stays h.0
 
 starts_at : (b : Bool) → Unties (StartsLoginAt b)
 starts_at true before after sent answer h is = stays h.0
-starts_at false before after sent answer h is = starts_from (is_initial before.login.sasl) before after sent answer h is
+starts_at false before after sent answer h is =
+    starts_from (is_initial before.login.sasl) before after sent answer h is
 
 settles : (r : Result (ProtocolVersion × Option Backend) PgWireError) → Unties (LoginSettlesVersion r)
 settles (Err e) before after sent answer h is = stays h.0
 settles (Ok (version, offered)) before after sent answer h is =
-    unties_then (Sends (offered_messages offered)) (Sets _) (unties_sends (offered_messages offered)) (unties_sets _) before after sent answer
+    unties_then (Sends (offered_messages offered)) (Sets _) (unties_sends (offered_messages offered))
+    (unties_sets _) before after sent answer
     h is
 
 unties_begins : (s : Startup) → Unties (BeginsLogin s)
@@ -114,12 +116,15 @@ draws : Unties Draws
 draws before after sent (Ok done) h is = ap (λ (x : Standing). tied x.login) h.1.3
 draws before after sent (Err e) h is = ap (λ (x : Standing). tied x.login) h.1
 
-entered : (got : Result (Option HandlePair) RegistryError) (pass : Option Known) (before after : Standing) (answer : Answer)
-    → pass ≡ before.login.pass → got ≡ Ok None → Entered got pass before after answer → before.login.registered ≡ None
+entered : (got : Result (Option HandlePair) RegistryError) (pass : Option Known) (before after : Standing)
+    (answer : Answer)
+    → pass ≡ before.login.pass → got ≡ Ok None → Entered got pass before after answer
+    → before.login.registered ≡ None
     → tied after.login ≡ tied before.login
 entered (Ok pair) pass before after answer own same h is =
     let none : pair ≡ None = cc in
-    ap (λ (x : Standing). tied x.login) h.0 ∙ ap (λ (p : Option Known). record { registered = pair; pass = p }) own
+    ap (λ (x : Standing). tied x.login) h.0
+    ∙ ap (λ (p : Option Known). record { registered = pair; pass = p }) own
     ∙ ap (λ (r : Option HandlePair). record { registered = r; pass = before.login.pass }) (none ∙ sym is)
 entered (Err registry.Gone) pass before after answer own same h is = absurd h
 entered (Err registry.Exhausted) pass before after answer own same h is = absurd cc
@@ -137,7 +142,8 @@ unties_accepts = unties_then Draws (Enrolls Nowhere) draws
 module _ (P : LoginClient → Option Held → Type 0) where
   pub unties_introduces : Unties (Introduces P)
   unties_introduces before after sent answer (inl h) is = stays h.0
-  unties_introduces before after sent answer (inr (parameters, given, h)) is = unties_sends _ before after sent answer
+  unties_introduces before after sent answer (inr (parameters, given, h)) is =
+      unties_sends _ before after sent answer
       h is
 
   pub unties_finishes : Unties (Finishes P Nowhere)
@@ -181,7 +187,8 @@ noop_on (of.Startup s) =
     (unties_then (AcceptsLogin Nowhere) _ unties_accepts
     (unties_then (IntroducesBy default_provider) _ (unties_introduces _)
     (unties_then LoginStays _ unties_passes
-    (unties_then (Readies login_ready) (Marks _) (unties_then (Sends (login_ready ∷ [])) (Sets _) (unties_sends (login_ready ∷ []))
+    (unties_then (Readies login_ready) (Marks _)
+    (unties_then (Sends (login_ready ∷ [])) (Sets _) (unties_sends (login_ready ∷ []))
     (unties_sets _)) (unties_marks _ (λ s. refl))))))
 noop_on (of.Password m) = unties_passes
 noop_on of.Other = unties_passes
@@ -221,12 +228,14 @@ module _ (means : Acts) (keeps : (m : Message) → Unties (means m)) where
       → Leads (serving means) stage bytes c → tied (login_at c) ≡ tied stage.login
   unfolding MoveTied
   leads_tied stage bytes c is (waits s bs more) = refl
-  leads_tied stage bytes c is (stops s bs why ending bad refuses) = ap (λ (x : ServerEnding). tied x.stage.login) refuses
+  leads_tied stage bytes c is (stops s bs why ending bad refuses) =
+      ap (λ (x : ServerEnding). tied x.stage.login) refuses
   leads_tied stage bytes c is (breaks s bs ending b) = ap (λ (x : ServerEnding). tied x.stage.login) b
   leads_tied stage bytes c is (ends s bs m len ending out whole step) = step_tied s m (Ends ending out) step is
   leads_tied stage bytes c is (goes s next bs m len out c' whole step on) =
       let one = step_tied s m (On next out) step is in
-      ap tied (behind_tied out c') ∙ leads_tied next (drop len bs) c' (ap (λ (t : Tied). t.registered) one ∙ is) on
+      ap tied (behind_tied out c')
+      ∙ leads_tied next (drop len bs) c' (ap (λ (t : Tied). t.registered) one ∙ is) on
       ∙ one
 
   pub stays_unregistered : StaysUnregistered means
@@ -244,4 +253,5 @@ pub md5_unties : (A : Login → Result Kept PgWireError → Type 0) (P : LoginCl
 md5_unties A P = stays_unregistered (Md5Means A P Nowhere) (λ m. unties_or_fails _ (md5_on A P (heard m)))
 
 pub noop_unties : StaysUnregistered (NoopMeans (λ m. LoginStays) Nowhere)
-noop_unties = stays_unregistered (NoopMeans (λ m. LoginStays) Nowhere) (λ m. unties_or_fails _ (noop_on (heard m)))
+noop_unties =
+    stays_unregistered (NoopMeans (λ m. LoginStays) Nowhere) (λ m. unties_or_fails _ (noop_on (heard m)))

@@ -46,7 +46,8 @@ abbrev pub Proving : Type 1
 Proving = List Taken → Taken → Type 0
 
 -- A client is let in only in answer to such a message; and where it may ask, one was taken.
-pub record IsGuarded (Proves : Proving) (taken : List Taken) (course : Course Stage ServerEnding) : Type 0
+pub record IsGuarded (Proves : Proving) (taken : List Taken) (course : Course Stage ServerEnding)
+    : Type 0
   where
     pub said : (earlier later : List Taken) (t : Taken) → taken ≡ earlier ++ t ∷ later
         → list_any lets_in t.said ≡ true → Proves earlier t
@@ -62,10 +63,12 @@ IsGuardedWay means Proves begin given course way =
 
 -- whatever a new client sends
 abbrev pub LetsInBy : Acts → (Stage → Proving) → Type 0
-LetsInBy means Proves = (bound : Option ℕ) (client : LoginClient) (login : LoginState) (given : List ℕ)
+LetsInBy means Proves =
+    (bound : Option ℕ) (client : LoginClient) (login : LoginState) (given : List ℕ)
     (course : Course Stage ServerEnding) → IsNewClient client login
     → (way : Leads (serving means) (begins_within bound client login) given course)
-    → IsGuardedWay means (Proves (begins_within bound client login)) (begins_within bound client login)
+    → IsGuardedWay means (Proves (begins_within bound client login))
+    (begins_within bound client login)
     given course way
 
 -- ---- who logs in
@@ -91,7 +94,8 @@ IsPasswordMessage message text = (m : PasswordMessageFamily) × (read : Password
     × (read.password ≡ text)
 
 -- it is, byte for byte, the password that the source answers for who logs in
-pub record ProvesCleartext (A : Source) (begin : Stage) (earlier : List Taken) (t : Taken) : Type 0
+pub record ProvesCleartext (A : Source) (begin : Stage) (earlier : List Taken) (t : Taken) : Type
+    0
   where
     pub login : Login
     pub kept : Kept
@@ -111,9 +115,10 @@ pub record IsChallenged (A : Source) (earlier : List Taken) (login : Login) (kep
 
 -- it is, byte for byte, the text that the source answered for who logs in, with the salt that the
 -- client was told
-pub record ProvesMd5 (A : Source) (begin : Stage) (earlier : List Taken) (t : Taken) : Type 0 where
-  pub login : Login
-  pub kept : Kept
-  pub named : IsNamed begin.client earlier login
-  pub challenged : IsChallenged A earlier login kept
-  pub proof : IsPasswordMessage t.message kept.password
+pub record ProvesMd5 (A : Source) (begin : Stage) (earlier : List Taken) (t : Taken) : Type 0
+  where
+    pub login : Login
+    pub kept : Kept
+    pub named : IsNamed begin.client earlier login
+    pub challenged : IsChallenged A earlier login kept
+    pub proof : IsPasswordMessage t.message kept.password

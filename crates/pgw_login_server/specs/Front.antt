@@ -27,10 +27,12 @@ asks_for_none (frontend.SslNegotiation negotiation.None) = true
 asks_for_none m = false
 
 -- what was found, or the first message where no encryption is asked for
-abbrev pub or_first_message : ProtocolVersion → Result (Option (Message × List ℕ)) PgWireError → Result (Option (Message × List ℕ)) PgWireError
+abbrev pub or_first_message : ProtocolVersion → Result (Option (Message × List ℕ)) PgWireError
+    → Result (Option (Message × List ℕ)) PgWireError
 or_first_message version (Err e) = Err e
 or_first_message version (Ok None) = Ok None
-or_first_message version (Ok (Some x)) = if asks_for_none x.0 then frontend_front (phase false true version) x.1 else Ok (Some x)
+or_first_message version (Ok (Some x)) =
+    if asks_for_none x.0 then frontend_front (phase false true version) x.1 else Ok (Some x)
 
 -- A message with a type byte, of which its header says the length. Under a bound, what is refused of the header alone comes
 -- first, and then a length above the bound, before any byte of the body is looked at.
@@ -46,11 +48,13 @@ typed_within (Some bound) version bytes =
 -- it has a type byte, and is bounded.
 abbrev pub client_front : Bool → Option ℕ → ProtocolVersion → List ℕ
     → Result (Option (Message × List ℕ)) PgWireError
-client_front false bound version bytes = or_first_message version (frontend_front (phase true true version) bytes)
+client_front false bound version bytes =
+    or_first_message version (frontend_front (phase true true version) bytes)
 client_front true bound version bytes = typed_within bound version bytes
 
 -- the same as a machine reads it: a message with its length
-abbrev pub server_front : {M : Type 0} → List ℕ → Result (Option (M × List ℕ)) PgWireError → Front M PgWireError
+abbrev pub server_front : {M : Type 0} → List ℕ → Result (Option (M × List ℕ)) PgWireError
+    → Front M PgWireError
 server_front bytes (Err e) = Bad e
 server_front bytes (Ok None) = More
 server_front bytes (Ok (Some x)) = Whole x.0 (length bytes - length x.1)

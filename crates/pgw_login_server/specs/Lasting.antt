@@ -15,7 +15,10 @@ IsReady client login = (client.state ≡ ReadyForQuery) × (login.started ≡ tr
 
 -- a message of such a client that is not refused leaves it so
 abbrev pub KeepsReady : (Message → Standing → Standing → List Backend → Answer → Type 0) → Type 0
-KeepsReady means = (m : Message) (before after : Standing) (sent : List Backend) → IsReady before.client before.login → means m before after sent (Ok tt) → IsReady after.client after.login
+KeepsReady means =
+    (m : Message) (before after : Standing) (sent : List Backend)
+    → IsReady before.client before.login → means m before after sent (Ok tt)
+    → IsReady after.client after.login
 
 abbrev pub StaysReady : Course Stage ServerEnding → Type 0
 StaysReady (Waits stage out pending) = IsReady stage.client stage.login

@@ -6,7 +6,9 @@ use Rattle.pgw_login_server.specs.Server.{Stage, ServerEnding, serving}
 use Rattle.pgw_login_server.specs.Taken.{Acts}
 
 -- one piece after the other leads from this place to that one
-abbrev pub LeadOn : Acts → Course Stage ServerEnding → List (List ℕ) → Course Stage ServerEnding → Type 0
+abbrev pub LeadOn : Acts → Course Stage ServerEnding → List (List ℕ) → Course Stage ServerEnding
+    → Type 0
 LeadOn means course [] there = there ≡ course
 LeadOn means course (piece ∷ pieces) there =
-    (mid : Course Stage ServerEnding) × Continues (serving means) course piece mid × LeadOn means mid pieces there
+    (mid : Course Stage ServerEnding) × Continues (serving means) course piece mid
+    × LeadOn means mid pieces there

@@ -60,20 +60,27 @@ abbrev pub server_encodings : List Backend → Result (List ℕ) PgWireError
 server_encodings ms = fold and_encoding (Ok []) ms
 
 abbrev pub stage_after : Standing → Bool → Stage → Stage
-stage_after s started stage = record stage { client = s.client; login = s.login; started = started }
+stage_after s started stage =
+    record stage { client = s.client; login = s.login; started = started }
 
 -- a handler's answer: it goes on, and the startup message was taken; or it is refused
 abbrev pub answer_move : Answer → Standing → Stage → List ℕ → Move Stage ServerEnding
 answer_move (Ok done) s stage out = On (stage_after s true stage) out
-answer_move (Err e) s stage out = Ends (server_ending (Refused e) (stage_after s stage.started stage)) out
+answer_move (Err e) s stage out =
+    Ends (server_ending (Refused e) (stage_after s stage.started stage)) out
 
 -- the handler's act, with the encodings of what it sends put out; no call of a core's outbox fails
-abbrev pub Handles : (Message → Standing → Standing → List Backend → Answer → Type 0) → Stage → Message → Move Stage ServerEnding → Type 0
-Handles means stage m move = (to : Standing) × (sent : List Backend) × (answer : Answer) × (out : List ℕ)
-    × means m (standing_in_login stage.client stage.login 0) to sent answer × (server_encodings sent ≡ Ok out) × (move ≡ answer_move answer to stage out) × (to.faults ≡ 0)
+abbrev pub Handles : (Message → Standing → Standing → List Backend → Answer → Type 0) → Stage
+    → Message → Move Stage ServerEnding → Type 0
+Handles means stage m move =
+    (to : Standing) × (sent : List Backend) × (answer : Answer) × (out : List ℕ)
+    × means m (standing_in_login stage.client stage.login 0) to sent answer
+    × (server_encodings sent ≡ Ok out) × (move ≡ answer_move answer to stage out)
+    × (to.faults ≡ 0)
 
 -- A request for encryption is refused by the byte `N`, and a request to cancel ends the connection. All else is the handler's.
-abbrev pub Steps : (Message → Standing → Standing → List Backend → Answer → Type 0) → Stage → Message → Move Stage ServerEnding → Type 0
+abbrev pub Steps : (Message → Standing → Standing → List Backend → Answer → Type 0) → Stage
+    → Message → Move Stage ServerEnding → Type 0
 Steps means stage (frontend.SslNegotiation m) move = move ≡ On stage (78 ∷ [])
 Steps means stage (frontend.CancelRequest r) move = move ≡ Ends (server_ending (Asked r) stage) []
 Steps means stage m move = Handles means stage m move
@@ -81,10 +88,13 @@ Steps means stage m move = Handles means stage m move
 -- ---- the machine
 
 abbrev pub stage_front : Stage → List ℕ → Front Message PgWireError
-stage_front stage bytes = server_front bytes (client_front stage.started (bound_at stage) stage.client.protocol_version bytes)
+stage_front stage bytes =
+    server_front bytes (client_front stage.started (bound_at stage)
+    stage.client.protocol_version bytes)
 
 -- what is refused at the front ends it, and so may want of memory at any time
-abbrev pub serving : (Message → Standing → Standing → List Backend → Answer → Type 0) → Play Stage ServerEnding Message PgWireError
+abbrev pub serving : (Message → Standing → Standing → List Backend → Answer → Type 0)
+    → Play Stage ServerEnding Message PgWireError
 serving means = record {
   read = stage_front;
   Steps = Steps means;

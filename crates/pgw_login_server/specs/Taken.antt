@@ -20,7 +20,8 @@ pub record Taken : Type 0 where
   pub put : List ℕ
 
 -- no message is said to a request for encryption, or to cancel
-abbrev pub server_reply : (means : Acts) (stage : Stage) (m : Message) (move : Move Stage ServerEnding)
+abbrev pub server_reply : (means : Acts) (stage : Stage) (m : Message)
+    (move : Move Stage ServerEnding)
     → Steps means stage m move → List Backend
 server_reply means stage (frontend.SslNegotiation n) move step = []
 server_reply means stage (frontend.CancelRequest r) move step = []
@@ -30,13 +31,21 @@ abbrev pub put_by : Move Stage ServerEnding → List ℕ
 put_by (On stage out) = out
 put_by (Ends ending out) = out
 
-abbrev pub taken_step : (means : Acts) (stage : Stage) (m : Message) (move : Move Stage ServerEnding)
+abbrev pub taken_step : (means : Acts) (stage : Stage) (m : Message)
+    (move : Move Stage ServerEnding)
     → Steps means stage m move → Taken
 taken_step means stage m move step =
-    record { stage = stage; message = m; said = server_reply means stage m move step; put = put_by move }
+    record {
+      stage = stage;
+      message = m;
+      said = server_reply means stage m move step;
+      put = put_by
+          move;
+    }
 
 -- the messages taken on this way, in order, that which ended it too
-abbrev pub taken_in : (means : Acts) (stage : Stage) (bytes : List ℕ) (course : Course Stage ServerEnding)
+abbrev pub taken_in : (means : Acts) (stage : Stage) (bytes : List ℕ)
+    (course : Course Stage ServerEnding)
     → Leads (serving means) stage bytes course → List Taken
 taken_in means stage bytes course (waits s bs more) = []
 taken_in means stage bytes course (stops s bs why ending bad refuses) = []

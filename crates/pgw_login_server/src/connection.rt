@@ -9,12 +9,12 @@ ghost use Rattle.pgw_login_server.specs.Steps.{is_end, DidHear, DidStep, Advance
 
 use crate::front::next_message;
 use bytes::BytesMut;
+use pgw_control::cancel::CancelRequest;
 use pgw_frontend::frontend::PgWireFrontendMessage;
 use pgw_login::client_info::{DefaultClient, PgWireConnectionState};
 use pgw_login::handler::StartupHandler;
 use pgw_login::outbox::ByteOutbox;
 use pgw_login::state::LoginState;
-use pgw_control::cancel::CancelRequest;
 use pgw_startup::response::SslResponse;
 use pgw_types::error::{PgWireError, PgWireResult};
 use std::alloc::Global;
@@ -64,7 +64,8 @@ impl<H: StartupHandler> ServerCore<H> {
         ensures kept { (result.handler ≡ handler) × (result.client ≡ client)
             × (result.login ≡ state) × (result.bound ≡ None) }
         // It stands for no bytes given and none put out.
-        ensures stands { ServerStands (H.means handler) (begins (login_client client) state) result [] [] }
+        ensures stands { ServerStands (H.means handler) (begins (login_client client) state) result
+            [] [] }
     {
         ServerCore::begin(alloc, handler, client, state, None)
     }
@@ -84,7 +85,8 @@ impl<H: StartupHandler> ServerCore<H> {
         ensures going { result.over ≡ false }
         ensures kept { (result.handler ≡ handler) × (result.client ≡ client)
             × (result.login ≡ state) × (result.bound ≡ Some bound) }
-        ensures stands { ServerStands (H.means handler) (begins_within (Some bound) (login_client client) state)
+        ensures stands { ServerStands (H.means handler)
+            (begins_within (Some bound) (login_client client) state)
             result [] [] }
     {
         ServerCore::begin(alloc, handler, client, state, Some(bound))
@@ -102,7 +104,8 @@ impl<H: StartupHandler> ServerCore<H> {
         ensures going { result.over ≡ false }
         ensures kept { (result.handler ≡ handler) × (result.client ≡ client)
             × (result.login ≡ state) × (result.bound ≡ bound) }
-        ensures stands { ServerStands (H.means handler) (begins_within bound (login_client client) state) result
+        ensures stands { ServerStands (H.means handler)
+            (begins_within bound (login_client client) state) result
             [] [] }
     {
         ServerCore {
@@ -132,7 +135,8 @@ impl<H: StartupHandler> ServerCore<H> {
         ensures stands { (begin : Stage) (given put : List ℕ) →
             ServerStands (H.means self.old.handler) begin self.old given put →
             (more : List ℕ) × (out.new.items ≡ out.old.items ++ more)
-            × ServerStands (H.means self.old.handler) begin self.new (given ++ piece.now) (put ++ more) }
+            × ServerStands (H.means self.old.handler) begin self.new (given ++ piece.now)
+            (put ++ more) }
         // From wherever it was, the piece leads to where it is.
         ensures continues { (course : Course Stage ServerEnding) (put : List ℕ) →
             IsAt self.old put course → WentOn (H.means self.old.handler) self.old self.new put
@@ -204,7 +208,8 @@ impl<H: StartupHandler> ServerCore<H> {
         ensures fits { H.fits self.new.handler self.new.login }
         ensures kept { (self.new.handler ≡ self.old.handler) × (self.new.over ≡ self.old.over)
             × (self.new.bound ≡ self.old.bound) }
-        ensures comes { ServerTakesAll (H.means self.old.handler) (stage_of self.old) self.old.inbox.items
+        ensures comes { ServerTakesAll (H.means self.old.handler) (stage_of self.old)
+            self.old.inbox.items
             (stage_of self.new) self.new.inbox.items out.old.items out.new.items result }
     {
         let buffer = replace(out, BytesMut::new(alloc));
@@ -221,7 +226,8 @@ impl<H: StartupHandler> ServerCore<H> {
         ensures fits { H.fits self.new.handler self.new.login }
         ensures kept { (self.new.handler ≡ self.old.handler) × (self.new.over ≡ self.old.over)
             × (self.new.bound ≡ self.old.bound) }
-        ensures comes { ServerTakesAll (H.means self.old.handler) (stage_of self.old) self.old.inbox.items
+        ensures comes { ServerTakesAll (H.means self.old.handler) (stage_of self.old)
+            self.old.inbox.items
             (stage_of self.new) self.new.inbox.items out.old.buffer.items out.new.buffer.items
             result }
     {

@@ -37,7 +37,8 @@ pub fn pieces_join<H: StartupHandler>()
     ensures one { (handler : H) (begin : Stage) (given piece : List ℕ)
         (there : Course Stage ServerEnding) →
         Leads (serving (H.means handler)) begin (given ++ piece) there
-        ↔ ((course : Course Stage ServerEnding) × Leads (serving (H.means handler)) begin given course
+        ↔ ((course : Course Stage ServerEnding) ×
+        Leads (serving (H.means handler)) begin given course
         × Continues (serving (H.means handler)) course piece there) }
     // One piece after the other leads to the places to which they lead together, and to no other.
     ensures all { (handler : H) (begin : Stage) (piece : List ℕ) (pieces : List (List ℕ))
@@ -60,7 +61,8 @@ pub fn handlers_keep_a_finished_login<A: AuthSource, P: ServerParameterProvider,
         (M.registers registry)) }
     ensures md5 { (source : A) (provider : P) (registry : M) →
         KeepsReady (Md5Means (A.answers source) (P.provides provider) (M.registers registry)) }
-    ensures noop { (registry : M) → KeepsReady (NoopMeans (λ m. LoginStays) (M.registers registry)) }
+    ensures noop { (registry : M) → KeepsReady
+        (NoopMeans (λ m. LoginStays) (M.registers registry)) }
 {}
 
 /// What a server takes stands at the front of the bytes given, one message behind the other; and what it puts out are the

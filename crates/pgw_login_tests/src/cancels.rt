@@ -2,10 +2,10 @@
 ghost use Rattle.std.specs.Prelude.{◌≡◌};
 ghost use Rattle.std.specs.Arc.{arc_value};
 
+use pgw_control::cancel::CancelRequest;
 use pgw_login::cancel::{CancelHandler, DefaultCancelHandler};
 use pgw_login::noop::NoopHandler;
 use pgw_login::registers::{Managed, Registers};
-use pgw_control::cancel::CancelRequest;
 use pgw_registry::manager::{
     CancelToken, ConnectionGuard, ConnectionHandle, ConnectionManager, Pass,
 };

@@ -3,12 +3,12 @@ ghost use Rattle.std.specs.Prelude.{pos, ◌≤ℤ◌};
 
 use crate::handlers::WELCOMED;
 use crate::support::{OnePassword, Outcome, Silent, Step, compare, outcome_of, words_of};
+use pgw_control::cancel::CancelRequest;
 use pgw_login::cancel::{CancelHandler, ErrorHandler, PgWireServerHandlers};
 use pgw_login::cleartext::CleartextPasswordAuthStartupHandler;
 use pgw_login::client_info::DefaultClient;
 use pgw_login::md5::Md5PasswordAuthStartupHandler;
 use pgw_login::noop::NoopHandler;
-use pgw_control::cancel::CancelRequest;
 use pgw_registry::generator::RandomPidSecretKeyGenerator;
 use pgw_registry::manager::ConnectionManager;
 use pgw_types::error::PgWireError;

@@ -3,6 +3,7 @@ ghost use Rattle.std.specs.Prelude.{◌≡◌, None};
 ghost use Rattle.pgw_login.specs.declared.state.LoginState.{LoginState as TheState};
 
 use bytes::BytesMut;
+use pgw_control::terminate::Terminate;
 use pgw_frontend::frontend::PgWireFrontendMessage;
 use pgw_login::client_info::{ClientInfo, DefaultClient, METADATA_USER};
 use pgw_login::handler::StartupHandler;
@@ -10,7 +11,6 @@ use pgw_login::outbox::{ByteOutbox, Outbox};
 use pgw_login::provider::ServerParameterProvider;
 use pgw_login::source::{AuthSource, LoginInfo};
 use pgw_login::state::LoginState;
-use pgw_control::terminate::Terminate;
 use pgw_registry::generator::PidSeat;
 use pgw_scram::password::Password as Kept;
 use pgw_startup::password::{Password, PasswordMessageFamily};

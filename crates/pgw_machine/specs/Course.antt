@@ -15,8 +15,10 @@ pub data Front (M E : Type 0) : Type 0 where
 pub record IsReading {M E : Type 0} (read : List ℕ → Front M E) : Type 0 where
   pub none : read [] ≡ More
   pub within : (bytes : List ℕ) (m : M) (len : ℕ) → read bytes ≡ Whole m len → len ≤ length bytes
-  pub whole : (bytes more : List ℕ) (m : M) (len : ℕ) → read bytes ≡ Whole m len → read (take len bytes ++ more) ≡ Whole m len
-  pub bad : (bytes more : List ℕ) (why : E) → read bytes ≡ Bad why → read (bytes ++ more) ≡ Bad why
+  pub whole : (bytes more : List ℕ) (m : M) (len : ℕ) → read bytes ≡ Whole m len
+      → read (take len bytes ++ more) ≡ Whole m len
+  pub bad : (bytes more : List ℕ) (why : E) → read bytes ≡ Bad why
+      → read (bytes ++ more) ≡ Bad why
 
 -- what a message does: the machine goes on or ends, and puts bytes out
 pub data Move (S R : Type 0) : Type 0 where
@@ -48,7 +50,8 @@ eat rules state sent pending (Bad why) = Over (rules.bad state why) sent
 eat rules state sent pending (Whole m len) = onto sent (rules.step state m)
 
 abbrev pub feed : {S R M E : Type 0} → Rules S R M E → Course S R → ℕ → Course S R
-feed rules (Waits state sent pending) byte = eat rules state sent (pending ++ byte ∷ []) (rules.read state (pending ++ byte ∷ []))
+feed rules (Waits state sent pending) byte =
+    eat rules state sent (pending ++ byte ∷ []) (rules.read state (pending ++ byte ∷ []))
 feed rules (Over ending sent) byte = Over ending sent
 
 -- what has been put out
@@ -71,7 +74,8 @@ Begins course wrote = (more : List ℕ) × (sent_of course ≡ wrote ++ more)
 
 -- the course waits for more bytes
 abbrev pub CourseWaits : {S R : Type 0} → Course S R → List ℕ → Type 0
-CourseWaits {S} course sent = (state : S) × (pending : List ℕ) × (course ≡ Waits state sent pending)
+CourseWaits {S} course sent =
+    (state : S) × (pending : List ℕ) × (course ≡ Waits state sent pending)
 
 -- ---- one machine seen as another
 
@@ -85,7 +89,8 @@ map_move f g (On state out) = On (f state) out
 map_move f g (Ends ending out) = Ends (g ending) out
 
 -- the second machine reads and does in each state seen what the first does
-pub record IsView {S T Q R M E : Type 0} (f : S → T) (g : Q → R) (first : Rules S Q M E) (second : Rules T R M E) : Type 0 where
+pub record IsView {S T Q R M E : Type 0} (f : S → T) (g : Q → R) (first : Rules S Q M E)
+    (second : Rules T R M E) : Type 0 where
   pub read : (state : S) (bytes : List ℕ) → second.read (f state) bytes ≡ first.read state bytes
   pub step : (state : S) (m : M) → second.step (f state) m ≡ map_move f g (first.step state m)
   pub bad : (state : S) (why : E) → second.bad (f state) why ≡ g (first.bad state why)

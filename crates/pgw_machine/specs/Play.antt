@@ -23,21 +23,40 @@ course_behind out (Over ending sent) = Over ending (out ++ sent)
 -- From a state, the bytes lead to this place: nothing whole stands at their front, or they are refused there, or the
 -- machine ends, or a message is taken and the bytes behind it lead on.
 pub data Leads {S R M E : Type 0} (play : Play S R M E) : S → List ℕ → Course S R → Type 0 where
-  waits : (state : S) → (bytes : List ℕ) → play.read state bytes ≡ More → Leads play state bytes (Waits state [] bytes)
-  stops : (state : S) → (bytes : List ℕ) → (why : E) → (ending : R) → play.read state bytes ≡ Bad why → play.Refuses state why ending → Leads play state bytes (Over ending [])
-  breaks : (state : S) → (bytes : List ℕ) → (ending : R) → play.Breaks state ending → Leads play state bytes (Over ending [])
-  ends : (state : S) → (bytes : List ℕ) → (m : M) → (len : ℕ) → (ending : R) → (out : List ℕ) → play.read state bytes ≡ Whole m len → play.Steps state m (Ends ending out) → Leads play state bytes (Over ending out)
-  goes : (state next : S) → (bytes : List ℕ) → (m : M) → (len : ℕ) → (out : List ℕ) → (course : Course S R) → play.read state bytes ≡ Whole m len → play.Steps state m (On next out) → Leads play next (drop len bytes) course → Leads play state bytes (course_behind out course)
+  waits : (state : S) → (bytes : List ℕ) → play.read state bytes ≡ More
+      → Leads play state bytes (Waits state [] bytes)
+  stops : (state : S) → (bytes : List ℕ) → (why : E) → (ending : R)
+      → play.read state bytes ≡ Bad why → play.Refuses state why ending
+      → Leads play state bytes (Over ending [])
+  breaks : (state : S) → (bytes : List ℕ) → (ending : R) → play.Breaks state ending
+      → Leads play state bytes (Over ending [])
+  ends : (state : S) → (bytes : List ℕ) → (m : M) → (len : ℕ) → (ending : R) → (out : List ℕ)
+      → play.read state bytes ≡ Whole m len → play.Steps state m (Ends ending out)
+      → Leads play state bytes (Over ending out)
+  goes : (state next : S) → (bytes : List ℕ) → (m : M) → (len : ℕ) → (out : List ℕ)
+      → (course : Course S R) → play.read state bytes ≡ Whole m len
+      → play.Steps state m (On next out) → Leads play next (drop len bytes) course
+      → Leads play state bytes (course_behind out course)
 
 -- the steps of a machine that is a function
 abbrev pub play_of : {S R M E : Type 0} → Rules S R M E → Play S R M E
-play_of rules = record { read = rules.read; Steps = λ state m move. move ≡ rules.step state m; Refuses = λ state why ending. ending ≡ rules.bad state why; Breaks = λ state ending. ⊥ }
+play_of rules =
+    record {
+      read = rules.read;
+      Steps = λ state m move. move ≡ rules.step state m;
+      Refuses = λ
+          state why ending. ending ≡ rules.bad state why;
+      Breaks = λ state ending. ⊥;
+    }
 
 -- ---- words of its laws
 
 -- a piece more leads from this place to that one
-abbrev pub Continues : {S R M E : Type 0} → Play S R M E → Course S R → List ℕ → Course S R → Type 0
-Continues {S = S} {R = R} play (Waits state out pending) piece there = (course : Course S R) × Leads play state (pending ++ piece) course × (there ≡ course_behind out course)
+abbrev pub Continues : {S R M E : Type 0} → Play S R M E → Course S R → List ℕ → Course S R
+    → Type 0
+Continues {S = S} {R = R} play (Waits state out pending) piece there =
+    (course : Course S R) × Leads play state (pending ++ piece) course
+    × (there ≡ course_behind out course)
 Continues play (Over ending out) piece there = there ≡ Over ending out
 
 -- where it waits, nothing whole stands at the front of what it waits with

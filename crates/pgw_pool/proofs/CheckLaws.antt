@@ -78,11 +78,14 @@ module _ (low now : ℕ) (h : History) (old last : View) (is : IsIdleInPool low 
   abbrev Lent : Type 0
   Lent = (es : List Event) × IsLent (with_check h es) (lent_as now) last × BeginsIdle (with_check h es).over
 
-  stands_checked : (es : List Event) → StandsBy h (made_over h.over ++ made_call check es ∷ []) last → StandsBy (with_check h es) (made_over (with_check h es).over ++ []) last
+  stands_checked : (es : List Event) → StandsBy h (made_over h.over ++ made_call check es ∷ []) last
+      → StandsBy (with_check h es) (made_over (with_check h es).over ++ []) last
   stands_checked es stands =
-      subst (λ (ts : List Made). StandsBy h ts last) (sym (append-nil (made_over (h.over ++ checked es ∷ [])) ∙ made_more h.over (checked es))) stands
+      subst (λ (ts : List Made). StandsBy h ts last) (sym (append-nil (made_over (h.over ++ checked es ∷ []))
+      ∙ made_more h.over (checked es))) stands
 
-  lent_by : (es : List Event) → IsChecked es → StandsBy h (made_over h.over ++ made_call check es ∷ []) last → last.broken ≡ false → IsFlushed last.line → Lent
+  lent_by : (es : List Event) → IsChecked es → StandsBy h (made_over h.over ++ made_call check es ∷ []) last
+      → last.broken ≡ false → IsFlushed last.line → Lent
   lent_by es fit stands usable flushed =
       let resets = resets_more h.over (checked es) is.resets fit in (
         es,
@@ -98,12 +101,17 @@ module _ (low now : ℕ) (h : History) (old last : View) (is : IsIdleInPool low 
         begins_idle (h.over ++ checked es ∷ []) resets,
       )
 
-  behind : (broken : Bool) → last.broken ≡ broken → last.client.transaction_status ≡ Idle → (taken sent : List ℕ) → MovesLine old.line last.line taken sent → (broken ≡ false → IsFlushed last.line)
-      → StandsBehind answer.Responses h.config h.nonce (made_over h.over) check (old.line.tape.took ++ taken) (old.line.tape.wrote ++ sent) last.client last.line.buffer (Ok (EmptyQuery ∷ [])) broken → Lent
+  behind : (broken : Bool) → last.broken ≡ broken → last.client.transaction_status ≡ Idle → (taken sent : List ℕ)
+      → MovesLine old.line last.line taken sent → (broken ≡ false → IsFlushed last.line)
+      → StandsBehind answer.Responses h.config h.nonce (made_over h.over) check (old.line.tape.took ++ taken)
+      (old.line.tape.wrote ++ sent) last.client last.line.buffer (Ok (EmptyQuery ∷ [])) broken → Lent
   behind true known idle taken sent moved flushed b = absurd b
   behind false known idle taken sent moved flushed one =
       let es = one.0 in
-      let stands = over_link (λ (read wrote : List ℕ). StandsForCalls h.config h.nonce (made_over h.over ++ made_call check es ∷ []) read wrote last.client last.line.buffer) old.line last.line taken sent moved one.2 in
+      let stands =
+      over_link (λ (read wrote : List ℕ). StandsForCalls h.config h.nonce
+      (made_over h.over ++ made_call check es ∷ []) read wrote last.client last.line.buffer) old.line
+      last.line taken sent moved one.2 in
       let r = simple_ends _ es (one.1).0 in
       let told = status_known h (made_over h.over) check es r.0 r.1 last stands r.2 in
       lent_by es (one.1, (r.0, r.1, r.2, sym told ∙ idle)) stands known (flushed refl)
@@ -112,22 +120,29 @@ module _ (low now : ℕ) (h : History) (old last : View) (is : IsIdleInPool low 
       → Ok tt ≡ fit_by a last.client.transaction_status last.broken → Lent
   fit_lent a asked fit =
       let f = fit_is a last.client.transaction_status last.broken fit in
-      let s = asked.stands is.usable h.config h.nonce (made_over h.over) old.line.tape.took old.line.tape.wrote is.stands in
+      let s =
+      asked.stands is.usable h.config h.nonce (made_over h.over) old.line.tape.took old.line.tape.wrote
+      is.stands in
       behind last.broken refl f.1 s.0 s.1 s.2 s.3
-      (subst (λ (x : Result (List Response) ClientError). StandsBehind answer.Responses h.config h.nonce (made_over h.over) check (old.line.tape.took ++ s.0) (old.line.tape.wrote ++ s.1) last.client last.line.buffer x last.broken) f.0 s.4)
+      (subst (λ (x : Result (List Response) ClientError). StandsBehind answer.Responses h.config h.nonce
+      (made_over h.over) check (old.line.tape.took ++ s.0) (old.line.tape.wrote ++ s.1) last.client
+      last.line.buffer x last.broken) f.0 s.4)
 
 -- ---- it is not fit
 
 -- an idle session has no lease, whatever its next number is
-unlent_cut : (n : ℕ) (h : History) (v : View) (e : ClientError) → IsCutLease h (lent_as n) check e v → IsCutLease h (lent_as 0) check e v
+unlent_cut : (n : ℕ) (h : History) (v : View) (e : ClientError) → IsCutLease h (lent_as n) check e v
+    → IsCutLease h (lent_as 0) check e v
 unlent_cut n h v e is = record { stands = is.stands; wants = is.wants; broken = is.broken; resets = is.resets }
 
-unlent_fails : (n : ℕ) (h : History) (v : View) (broken : Bool) (e : ClientError) → FailsBy check h (lent_as n) v broken e → FailsBy check h (lent_as 0) v broken e
+unlent_fails : (n : ℕ) (h : History) (v : View) (broken : Bool) (e : ClientError)
+    → FailsBy check h (lent_as n) v broken e → FailsBy check h (lent_as 0) v broken e
 unlent_fails n h v false (client.UnexpectedMessage m) is = is
 unlent_fails n h v true e is = unlent_cut n h v e is
 unlent_fails n h v false e is = absurd is
 
-failed_unfit : (n : ℕ) (h : History) (why : DropCause) (v : View) → IsFailed check h (lent_as n) why v → IsUnfit h (Dropped why) v
+failed_unfit : (n : ℕ) (h : History) (why : DropCause) (v : View) → IsFailed check h (lent_as n) why v
+    → IsUnfit h (Dropped why) v
 failed_unfit n h (cause.Status status) v is = absurd is
 failed_unfit n h (cause.Refused e) v is = is
 failed_unfit n h (cause.Failed client.OutOfMemory) v is = absurd is
@@ -140,52 +155,81 @@ module _ (low : ℕ) (h : History) (old last : View) (is : IsIdleInPool low h ol
 
   abbrev AnsweredBy : (List Event → Type 0) → List ℕ → List ℕ → Type 0
   AnsweredBy property taken sent =
-      OneMore h.config h.nonce (made_over h.over ++ []) check property (old.line.tape.took ++ taken) (old.line.tape.wrote ++ sent) last.client last.line.buffer
+      OneMore h.config h.nonce (made_over h.over ++ []) check property (old.line.tape.took ++ taken)
+      (old.line.tape.wrote ++ sent) last.client last.line.buffer
 
-  ends_in : (property : List Event → Type 0) (taken sent : List ℕ) → MovesLine old.line last.line taken sent → AnsweredBy property taken sent → LeaseEndsBy check h (lent_as 0) property last
-  ends_in property taken sent moved one = ends_by check check_encoded h (lent_as (low + 1)) old last lease property taken sent moved one
+  ends_in : (property : List Event → Type 0) (taken sent : List ℕ) → MovesLine old.line last.line taken sent
+      → AnsweredBy property taken sent → LeaseEndsBy check h (lent_as 0) property last
+  ends_in property taken sent moved one =
+      ends_by check check_encoded h (lent_as (low + 1)) old last lease property taken sent moved one
 
   -- the status behind it
-  checked_in : (rs : List Response) (taken sent : List ℕ) → rs ≡ EmptyQuery ∷ [] → MovesLine old.line last.line taken sent
-      → AnsweredBy (IsAnswered check (answer.Responses rs)) taken sent → AnsweredBy (IsCheckedIn last.client.transaction_status) taken sent
+  checked_in : (rs : List Response) (taken sent : List ℕ) → rs ≡ EmptyQuery ∷ []
+      → MovesLine old.line last.line taken sent
+      → AnsweredBy (IsAnswered check (answer.Responses rs)) taken sent
+      → AnsweredBy (IsCheckedIn last.client.transaction_status) taken sent
   checked_in rs taken sent empty moved one =
       let es = one.0 in
       let r = simple_ends _ es (one.1).0 in
-      let stands = stands_more check check_encoded h (lent_as (low + 1)) old last lease es taken sent moved one.2 in
-      let told = status_known h (made_over h.over ++ []) check es r.0 r.1 last stands r.2 in
-      (es, (subst (λ (l : List Response). IsAnswered check (answer.Responses l) es) empty one.1, (r.0, r.1, r.2, sym told)), one.2)
+      let stands =
+      stands_more check check_encoded h (lent_as (low + 1)) old last lease es taken sent moved one.2 in
+      let told = status_known h (made_over h.over ++ []) check es r.0 r.1 last stands r.2 in (
+        es,
+        (
+          subst (λ (l : List Response). IsAnswered check (answer.Responses l) es) empty one.1,
+          (r.0, r.1, r.2, sym told),
+        ),
+        one.2,
+      )
 
-  by_status : (status : TransactionStatus) (why : Unfit) → Err why ≡ fit_by_status status → (taken sent : List ℕ) → MovesLine old.line last.line taken sent
+  by_status : (status : TransactionStatus) (why : Unfit) → Err why ≡ fit_by_status status → (taken sent : List ℕ)
+      → MovesLine old.line last.line taken sent
       → AnsweredBy (IsCheckedIn status) taken sent → IsUnfit h why last
   by_status Idle why by taken sent moved one = absurd (cc)
   by_status Transaction why by taken sent moved one =
       let same : why ≡ Dropped (cause.Status Transaction) = cc in
-      subst (λ (w : Unfit). IsUnfit h w last) (sym same) (ends_in (IsCheckedIn Transaction) taken sent moved one, λ idle. cc)
+      subst (λ (w : Unfit). IsUnfit h w last) (sym same)
+      (ends_in (IsCheckedIn Transaction) taken sent moved one, λ idle. cc)
   by_status Error why by taken sent moved one =
       let same : why ≡ Dropped (cause.Status Error) = cc in
-      subst (λ (w : Unfit). IsUnfit h w last) (sym same) (ends_in (IsCheckedIn Error) taken sent moved one, λ idle. cc)
+      subst (λ (w : Unfit). IsUnfit h w last) (sym same)
+      (ends_in (IsCheckedIn Error) taken sent moved one, λ idle. cc)
 
-  by_responses : (rs : List Response) (empty : Bool) → is_empty_query rs ≡ empty → (why : Unfit) → Err why ≡ (if empty then fit_by_status last.client.transaction_status else Err (Answered rs))
-      → (taken sent : List ℕ) → MovesLine old.line last.line taken sent → AnsweredBy (IsAnswered check (answer.Responses rs)) taken sent → IsUnfit h why last
+  by_responses : (rs : List Response) (empty : Bool) → is_empty_query rs ≡ empty → (why : Unfit)
+      → Err why ≡ (if empty then fit_by_status last.client.transaction_status else Err (Answered rs))
+      → (taken sent : List ℕ) → MovesLine old.line last.line taken sent
+      → AnsweredBy (IsAnswered check (answer.Responses rs)) taken sent → IsUnfit h why last
   by_responses rs true empty why by taken sent moved one =
-      by_status last.client.transaction_status why by taken sent moved (checked_in rs taken sent (empty_is rs empty) moved one)
+      by_status last.client.transaction_status why by taken sent moved
+      (checked_in rs taken sent (empty_is rs empty) moved one)
   by_responses rs false empty why by taken sent moved one =
       let same : why ≡ Answered rs = cc in
-      subst (λ (w : Unfit). IsUnfit h w last) (sym same) (ends_in (IsAnswered check (answer.Responses rs)) taken sent moved one, empty)
+      subst (λ (w : Unfit). IsUnfit h w last) (sym same)
+      (ends_in (IsAnswered check (answer.Responses rs)) taken sent moved one, empty)
 
-  by_answer : (a : Result (List Response) ClientError) (broken : Bool) → last.broken ≡ broken → (taken sent : List ℕ) → MovesLine old.line last.line taken sent
-      → StandsBehind answer.Responses h.config h.nonce (made_over h.over ++ []) check (old.line.tape.took ++ taken) (old.line.tape.wrote ++ sent) last.client last.line.buffer a broken
-      → Came check check_encoded h (lent_as (low + 1)) old last lease a broken → (why : Unfit) → Err why ≡ fit_by a last.client.transaction_status broken → IsUnfit h why last
+  by_answer : (a : Result (List Response) ClientError) (broken : Bool) → last.broken ≡ broken
+      → (taken sent : List ℕ) → MovesLine old.line last.line taken sent
+      → StandsBehind answer.Responses h.config h.nonce (made_over h.over ++ []) check
+      (old.line.tape.took ++ taken) (old.line.tape.wrote ++ sent) last.client last.line.buffer a broken
+      → Came check check_encoded h (lent_as (low + 1)) old last lease a broken → (why : Unfit)
+      → Err why ≡ fit_by a last.client.transaction_status broken → IsUnfit h why last
   by_answer (Ok rs) true known taken sent moved behind came why by = absurd behind
-  by_answer (Ok rs) false known taken sent moved behind came why by = by_responses rs (is_empty_query rs) refl why by taken sent moved behind
+  by_answer (Ok rs) false known taken sent moved behind came why by =
+      by_responses rs (is_empty_query rs) refl why by taken sent moved behind
   by_answer (Err e) broken known taken sent moved behind came why by =
       let same : why ≡ Dropped (cause_of e broken) = cc in
-      let failed = fails_by check check_encoded h (lent_as (low + 1)) old last lease e broken known taken sent moved behind came in
-      subst (λ (w : Unfit). IsUnfit h w last) (sym same) (failed_unfit (low + 1) h (cause_of e broken) last failed)
+      let failed =
+      fails_by check check_encoded h (lent_as (low + 1)) old last lease e broken known taken sent moved behind
+      came in
+      subst (λ (w : Unfit). IsUnfit h w last) (sym same)
+      (failed_unfit (low + 1) h (cause_of e broken) last failed)
 
-  pub unfit_of : (a : Result (List Response) ClientError) → IsAskedIn check old last a → (why : Unfit) → Err why ≡ fit_by a last.client.transaction_status last.broken → IsUnfit h why last
+  pub unfit_of : (a : Result (List Response) ClientError) → IsAskedIn check old last a → (why : Unfit)
+      → Err why ≡ fit_by a last.client.transaction_status last.broken → IsUnfit h why last
   unfit_of a asked why by =
-      let s = asked.stands is.usable h.config h.nonce (made_over h.over ++ []) old.line.tape.took old.line.tape.wrote lease.stands in
+      let s =
+      asked.stands is.usable h.config h.nonce (made_over h.over ++ []) old.line.tape.took old.line.tape.wrote
+      lease.stands in
       by_answer a last.broken refl s.0 s.1 s.2 s.4 (asked.comes is.usable) why by
 
 -- ---- of all that are idle
@@ -206,9 +250,11 @@ lends_checked low now number hs idle rest v l are =
         (f.0, f.1, f.2, idle_later low now hs rest (omega arith) are.1)
 
 rest_stays : (low : ℕ) (why : Unfit) (hs : List History) (idle now : List View) (last : View)
-    → (c : ChecksFirst idle now last (Err why)) → AreIdle low hs (c.old ∷ now) → StayChecked (refusal.Unfit why) hs low now
+    → (c : ChecksFirst idle now last (Err why)) → AreIdle low hs (c.old ∷ now)
+    → StayChecked (refusal.Unfit why) hs low now
 rest_stays low why [] idle now last c are = absurd are
-rest_stays low why (h ∷ hs) idle now last c are = (are.1, (last, unfit_of low h c.old last are.0 c.answer c.asked why c.by))
+rest_stays low why (h ∷ hs) idle now last c are =
+    (are.1, (last, unfit_of low h c.old last are.0 c.answer c.asked why c.by))
 
 pub stay_checked : (e : CheckError) (low was dropped : ℕ) (hs : List History) (idle now : List View)
     → LendsNoneFit idle was low now dropped e → AreIdle low hs idle → StayChecked e hs low now

@@ -28,7 +28,8 @@ segments_one : (o : Over) → segments_of (made_in o) ≡ segments_in o
 segments_one (ended l es) = segments_append l.made (made_call reset es ∷ [])
 segments_one (checked es) = refl
 
-requests_are : (os : List Over) (ts : List Made) → requests_of (made_over os ++ ts) ≡ requests_over os ++ requests_of ts
+requests_are : (os : List Over) (ts : List Made)
+    → requests_of (made_over os ++ ts) ≡ requests_over os ++ requests_of ts
 requests_are [] ts = refl
 requests_are (o ∷ os) ts =
     ap requests_of (append_assoc (made_in o) (made_over os) ts)
@@ -37,7 +38,8 @@ requests_are (o ∷ os) ts =
     ∙ ap (λ (l : List Request). requests_in o ++ l) (requests_are os ts)
     ∙ sym (append_assoc (requests_in o) (requests_over os) (requests_of ts))
 
-segments_are : (os : List Over) (ts : List Made) → segments_of (made_over os ++ ts) ≡ segments_over os ++ segments_of ts
+segments_are : (os : List Over) (ts : List Made)
+    → segments_of (made_over os ++ ts) ≡ segments_over os ++ segments_of ts
 segments_are [] ts = refl
 segments_are (o ∷ os) ts =
     ap segments_of (append_assoc (made_in o) (made_over os) ts)
@@ -56,29 +58,45 @@ answered_one (checked es) is own = ((is.0).0, tt)
 
 answered_over : (os : List Over) → AreReset os → AreAllAnswered os → AreAnswered (made_over os)
 answered_over [] are all = tt
-answered_over (o ∷ os) are all = answered_append (made_in o) (made_over os) (answered_one o are.0 all.0) (answered_over os are.1 all.1)
+answered_over (o ∷ os) are all =
+    answered_append (made_in o) (made_over os) (answered_one o are.0 all.0) (answered_over os are.1 all.1)
 
 -- the law on clients
 abbrev pub Wholes : Type 0
-Wholes = (config : Config) (nonce : List ℕ) (ts : List Made) (read wrote : List ℕ) (c : Client) (buffer : List ℕ) → StandsForCalls config nonce ts read wrote c buffer → AreAnswered ts → IsSession config nonce ts read wrote c buffer
+Wholes =
+    (config : Config) (nonce : List ℕ) (ts : List Made) (read wrote : List ℕ) (c : Client) (buffer : List ℕ)
+    → StandsForCalls config nonce ts read wrote c buffer → AreAnswered ts
+    → IsSession config nonce ts read wrote c buffer
 
-pub made_of : Wholes → (h : History) (ts : List Made) (v : View) → StandsBy h (made_over h.over ++ ts) v → AreReset h.over → AreAllAnswered h.over → AreAnswered ts → IsMadeOf h ts v
+pub made_of : Wholes → (h : History) (ts : List Made) (v : View) → StandsBy h (made_over h.over ++ ts) v
+    → AreReset h.over → AreAllAnswered h.over → AreAnswered ts → IsMadeOf h ts v
 made_of law h ts v stands are all answered =
-    let s = law h.config h.nonce (made_over h.over ++ ts) v.line.tape.took v.line.tape.wrote v.client v.line.buffer stands (answered_append (made_over h.over) ts (answered_over h.over are all) answered) in
+    let s =
+    law h.config h.nonce (made_over h.over ++ ts) v.line.tape.took v.line.tape.wrote v.client v.line.buffer
+    stands (answered_append (made_over h.over) ts (answered_over h.over are all) answered) in
     let segments = segments_are h.over ts in
     record {
       startup = s.startup;
-      transcript = subst (λ (qs : List Request). IsTranscript (input_with h.config qs h.nonce) (s.startup ∷ (segments_over h.over ++ segments_of ts))) (requests_are h.over ts)
-          (subst (λ (l : List (List Event)). IsTranscript (input_with h.config (requests_of (made_over h.over ++ ts)) h.nonce) (s.startup ∷ l)) segments s.transcript);
+      transcript =
+          subst (λ (qs : List Request). IsTranscript (input_with h.config qs h.nonce)
+          (s.startup ∷ (segments_over h.over ++ segments_of ts))) (requests_are h.over ts)
+          (subst (λ (l : List (List Event)). IsTranscript
+          (input_with h.config (requests_of (made_over h.over ++ ts)) h.nonce) (s.startup ∷ l)) segments
+          s.transcript);
       spelled = s.spelled;
       begins = s.begins;
-      got = subst (λ (l : List (List Event)). SpellsGot (first_standing h.config) (all_events (s.startup ∷ l)) s.spelled) segments s.got;
-      put = subst (λ (l : List (List Event)). EncodesSent (all_events (s.startup ∷ l)) v.line.tape.wrote) segments s.put;
+      got = subst (λ (l : List (List Event)). SpellsGot (first_standing h.config) (all_events (s.startup ∷ l))
+          s.spelled) segments s.got;
+      put = subst (λ (l : List (List Event)). EncodesSent (all_events (s.startup ∷ l)) v.line.tape.wrote) segments
+          s.put;
     }
 
-pub idle_made_of : Wholes → (lent : ℕ) (h : History) (v : View) → IsIdleInPool lent h v → AreAllAnswered h.over → IsMadeOf h [] v
+pub idle_made_of : Wholes → (lent : ℕ) (h : History) (v : View) → IsIdleInPool lent h v → AreAllAnswered h.over
+    → IsMadeOf h [] v
 idle_made_of law lent h v is all =
-    made_of law h [] v (subst (λ (ts : List Made). StandsBy h ts v) (sym (append-nil (made_over h.over))) is.stands) is.resets all tt
+    made_of law h [] v (subst (λ (ts : List Made). StandsBy h ts v) (sym (append-nil (made_over h.over))) is.stands)
+    is.resets all tt
 
-pub lent_made_of : Wholes → (h : History) (l : Lent) (v : View) → IsLent h l v → AreAllAnswered h.over → AreAnswered l.made → IsMadeOf h l.made v
+pub lent_made_of : Wholes → (h : History) (l : Lent) (v : View) → IsLent h l v → AreAllAnswered h.over
+    → AreAnswered l.made → IsMadeOf h l.made v
 lent_made_of law h l v is all answered = made_of law h l.made v is.stands is.resets all answered

@@ -85,7 +85,8 @@ made_over (o ∷ os) = made_in o ++ made_over os
 -- the last message that was got is ReadyForQuery, of this status
 abbrev pub EndsInStatus : TransactionStatus → List Event → Type 0
 EndsInStatus status es =
-    (front : List Event) × (m : ReadyForQuery) × (es ≡ front ++ Got (backend.ReadyForQuery m) ∷ [])
+    (front : List Event) × (m : ReadyForQuery)
+    × (es ≡ front ++ Got (backend.ReadyForQuery m) ∷ [])
     × (m.status ≡ status)
 
 -- a reset was answered by responses, and this was the status behind it

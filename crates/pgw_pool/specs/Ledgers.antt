@@ -155,8 +155,10 @@ pub data LedgerEntry : LedgerCall → Ledger → Ledger → Type 0 where
       (ledger idle (out ++ loan (with_check h es) (lent_as number) ∷ []) dropped)
   is_unfit : (h : History) (why : Unfit) (idle : List History) (out dropped : List Loan)
       (last : View) → IsUnfit h why last →
-      LedgerEntry (unfit why) (ledger (h ∷ idle) out dropped) (ledger idle out (dropped ++ unlent h ∷ []))
-  is_refilled : (config : Config) (nonce : List ℕ) (idle : List History) (out dropped : List Loan) →
+      LedgerEntry (unfit why) (ledger (h ∷ idle) out dropped)
+      (ledger idle out (dropped ++ unlent h ∷ []))
+  is_refilled : (config : Config) (nonce : List ℕ) (idle : List History) (out dropped : List Loan)
+      →
       LedgerEntry (refilled config nonce) (ledger idle out dropped)
       (ledger (idle ++ new_history config nonce ∷ []) out dropped)
   is_retired : (x : Loan) (idle : List History) (left right dropped : List Loan) →

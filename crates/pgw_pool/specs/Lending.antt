@@ -20,7 +20,8 @@ abbrev pub most_leases : ℕ
 most_leases = 18446744073709551615
 
 -- The session that has been idle longest is lent, under the next number.
-pub record Lends (idle : List View) (lent : ℕ) (rest : List View) (now : ℕ) (number : ℕ) (v : View)
+pub record Lends (idle : List View) (lent : ℕ) (rest : List View) (now : ℕ) (number : ℕ)
+    (v : View)
     : Type 0 where
   pub first : idle ≡ v ∷ rest
   pub below : lent ≢ most_leases
@@ -60,12 +61,13 @@ pub record IsStarvedIn (h : History) (ts : List Made) (q : Request) (v : View) :
 
 -- An error left the session unusable as this was asked: the requests before it were made, and of
 -- its own segment a front; or memory was wanting in it.
-pub record IsCutLease (h : History) (l : Lent) (q : Request) (e : ClientError) (v : View) : Type 0 where
-  pub stands : BrokenBehind h.config h.nonce (made_over h.over ++ l.made) q
-      v.line.tape.took v.line.tape.wrote v.client v.line.buffer e
-  pub wants : e ≡ client.OutOfMemory → IsStarvedIn h (made_over h.over ++ l.made) q v
-  pub broken : v.broken ≡ true
-  pub resets : AreReset h.over
+pub record IsCutLease (h : History) (l : Lent) (q : Request) (e : ClientError) (v : View) : Type 0
+  where
+    pub stands : BrokenBehind h.config h.nonce (made_over h.over ++ l.made) q
+        v.line.tape.took v.line.tape.wrote v.client v.line.buffer e
+    pub wants : e ≡ client.OutOfMemory → IsStarvedIn h (made_over h.over ++ l.made) q v
+    pub broken : v.broken ≡ true
+    pub resets : AreReset h.over
 
 -- What a lease stands for behind a request: for that too, and the answer is its own segment's; or
 -- for one that was passed over; or for none more where it has no encoding, or memory was wanting

@@ -52,7 +52,8 @@ pub record IsAskedIn (q : Request) (old now : View) (a : Result (List Response) 
       (old.line.buffer ++ taken) sent now.client now.line.buffer a now.broken
   -- and whatever the session stood for, it stands for the query besides
   pub stands : old.broken ≡ false → (config : Config) (nonce : List ℕ) (ts : List Made)
-      (read wrote : List ℕ) → StandsForCalls config nonce ts read wrote old.client old.line.buffer →
+      (read wrote : List ℕ)
+      → StandsForCalls config nonce ts read wrote old.client old.line.buffer →
       (taken sent : List ℕ) × MovesLine old.line now.line taken sent
       × (now.broken ≡ false → IsFlushed now.line)
       × StandsBehind answer.Responses config nonce ts q (read ++ taken) (wrote ++ sent)
@@ -136,7 +137,8 @@ IsFailed q h l (cause.Status status) v = ⊥
 -- What a session stands for that is dropped by this cause: a transaction was open behind its reset, or
 -- the reset failed.
 abbrev pub IsDropped : History → Lent → DropCause → View → Type 0
-IsDropped h l (cause.Status status) v = LeaseEndsBy reset h l (IsResetIn status) v × (status ≢ Idle)
+IsDropped h l (cause.Status status) v =
+    LeaseEndsBy reset h l (IsResetIn status) v × (status ≢ Idle)
 IsDropped h l why v = IsFailed reset h l why v
 
 -- The lease is over: its session is idle behind these; or they alone are, and it is dropped.

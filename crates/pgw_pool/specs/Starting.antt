@@ -39,7 +39,8 @@ dials tape offers faults = record { tape = tape; offers = offers; faults = fault
 -- a login by this nonce, over a link that was dialled, and of which no more is read than the limit
 abbrev pub PoolConnects : Config → ℕ → List ℕ → Dials → Dials → View → Type 0
 PoolConnects config limit nonce old new v =
-    IsWithin limit v.line × Connected (λ before after answer. StartupMeans before startup after answer)
+    IsWithin limit v.line
+    × Connected (λ before after answer. StartupMeans before startup after answer)
     (HeardAtStartup exchanges StartupMeans) (handler_with nonce) config limit old.tape new.tape
     v.client v.line
 
@@ -59,7 +60,8 @@ pub data ConnectForetold (config : Config) (limit : ℕ) (old : Dials)
     : List (List ℕ) → Dials → List (Option (List ℕ)) → List View → Type 0 where
   nothing_offered : ConnectForetold config limit old [] old [] []
   offer_more : (nonces : List (List ℕ)) (nonce : List ℕ) (mid new : Dials)
-      (lefts : List (Option (List ℕ))) (offer left : Option (List ℕ)) (vs : List View) (v : View) →
+      (lefts : List (Option (List ℕ))) (offer left : Option (List ℕ)) (vs : List View) (v : View)
+      →
       ConnectForetold config limit old nonces mid lefts vs →
       PoolConnects config limit nonce mid new v → MakesNext mid.offers new.offers offer →
       Foretold offer left new_tape v.line.tape → mid.faults ≤ new.faults →
@@ -77,7 +79,8 @@ NotConnects foretells config limit nonce old new e =
 -- A session by this nonce, of which none was lent, is idle behind all others.
 abbrev pub Refills : Config → ℕ → List ℕ → Dials → Dials → List View → List View → Type 0
 Refills config limit nonce old new idle now =
-    (v : View) × PoolConnects config limit nonce old new v × IsIdleInPool 0 (new_history config nonce) v
+    (v : View) × PoolConnects config limit nonce old new v
+    × IsIdleInPool 0 (new_history config nonce) v
     × (now ≡ idle ++ v ∷ [])
 
 -- The same by a dialer that knows its offers.
@@ -93,7 +96,8 @@ pub record RefillsForetold (config : Config) (limit : ℕ) (nonce : List ℕ) (o
   pub lefts_now : left_now ≡ lefts ++ left ∷ []
 
 -- The logins by the first nonces were made, and the next one was refused so.
-pub record PoolStopsAtLogin (foretells : Type 0) (config : Config) (limit : ℕ) (nonces : List (List ℕ))
+pub record PoolStopsAtLogin (foretells : Type 0) (config : Config) (limit : ℕ)
+    (nonces : List (List ℕ))
     (old new : Dials) (e : ClientError) : Type 0 where
   pub done : List (List ℕ)
   pub next : List ℕ

@@ -33,10 +33,11 @@ stock lent idle out = record { lent = lent; idle = idle; out = out }
 -- ---- calls
 
 -- what `run` promises of a lease
-pub record LeaseRuns (q : Request) (old new : View) (result : Result Answer ClientError) : Type 0 where
-  pub broken : old.broken ≡ true → (result ≡ Err client.Broken) × (new ≡ old)
-  pub asks : old.broken ≡ false →
-      Asks q old.client old.line new.client new.line new.broken result
+pub record LeaseRuns (q : Request) (old new : View) (result : Result Answer ClientError) : Type 0
+  where
+    pub broken : old.broken ≡ true → (result ≡ Err client.Broken) × (new ≡ old)
+    pub asks : old.broken ≡ false →
+        Asks q old.client old.line new.client new.line new.broken result
 
 -- one call: of the pool, or of a lease that is out
 pub data StockStep : Stock → Stock → Type 0 where

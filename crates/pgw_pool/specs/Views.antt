@@ -56,7 +56,8 @@ left_of left lease = left_in left lease.client
 -- ---- a pool
 
 -- its idle sessions, the one first that has been idle longest
-abbrev pub idle_in : {X : Type 0} {L : Link.Ghosts X} → (X → Tape) → (X → ℕ) → Pool X L → List View
+abbrev pub idle_in : {X : Type 0} {L : Link.Ghosts X} → (X → Tape) → (X → ℕ) → Pool X L
+    → List View
 idle_in tape faults pool = map (session_view tape faults) (pool.idle).items
 
 -- what their links still have to come

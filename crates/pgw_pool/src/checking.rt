@@ -12,9 +12,9 @@ use crate::lease::Lease;
 use crate::pool::Pool;
 use crate::returned::{DropCause, cause_of};
 use crate::session::Session;
-use pgw_client_laws::laws::{simple_queries_are_segments, simple_queries_follow_one_another};
 use pgw_client::{Link, Listed, PgWireClientResult, Response, TransactionStatus};
 use pgw_client_calls::{ClientInfo, PgWireClient};
+use pgw_client_laws::laws::{simple_queries_are_segments, simple_queries_follow_one_another};
 use pgw_handlers_default::DefaultSimpleQueryHandler;
 use std::alloc::Global;
 

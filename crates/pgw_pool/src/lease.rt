@@ -7,8 +7,8 @@ ghost use Rattle.pgw_client_calls.specs.Canceling.{IsTokenOf};
 ghost use Rattle.pgw_client_calls.specs.Connecting.{LacksAddress};
 ghost use Rattle.pgw_client_ask.specs.Asking.{Asks, EndsRequest};
 
-use pgw_client_ask::ask;
 use pgw_client::{Answer, Link, PgWireClientResult, Request};
+use pgw_client_ask::ask;
 use pgw_client_calls::{CancelToken, PgWireClient};
 use std::alloc::Global;
 

@@ -32,7 +32,8 @@ impl<L: Link> Pool<L> {
         ensures lent { lent_by self.new ≡ lent_by self.old }
         ensures out { out_by self.new ≡ out_by self.old }
         ensures dropped { dropped_by self.new ≡ dropped_by self.old }
-        ensures connected { OnOk result (connected_by self.new ≡ next_count (connected_by self.old)) }
+        ensures connected { OnOk result (connected_by self.new ≡ next_count
+            (connected_by self.old)) }
         ensures refills { OnOk result (Refills config.now limit nonce
             (dials (D.tape dialer.old) (D.offers dialer.old) (D.faults dialer.old))
             (dials (D.tape dialer.new) (D.offers dialer.new) (D.faults dialer.new))

@@ -6,11 +6,11 @@ ghost use Rattle.pgw_client_calls.specs.Line.{Foretold};
 ghost use Rattle.pgw_pool.specs.Views.{view_of, left_in};
 ghost use Rattle.pgw_pool.specs.Returning.{IsAsked, cause_of, kept_by, returned_by};
 
-use pgw_client_laws::laws::{simple_queries_are_segments, simple_queries_follow_one_another};
 use pgw_client::{
     ErrorResponse, Link, Listed, PgWireClientError, PgWireClientResult, Response, TransactionStatus,
 };
 use pgw_client_calls::{ClientInfo, PgWireClient};
+use pgw_client_laws::laws::{simple_queries_are_segments, simple_queries_follow_one_another};
 use pgw_handlers_default::DefaultSimpleQueryHandler;
 use std::alloc::Global;
 

@@ -9,9 +9,9 @@ ghost use Rattle.pgw_pool.specs.Histories.{IsIdleInPool, new_history};
 ghost use Rattle.pgw_pool.specs.Views.{view_of, left_in};
 ghost use Rattle.pgw_pool.specs.Starting.{dials, PoolConnects, NotConnects};
 
-use pgw_client_laws::laws::logins_begin_a_client;
 use pgw_client::{Config, Dialer, Link, PgWireClientError, PgWireClientResult};
 use pgw_client_calls::PgWireClient;
+use pgw_client_laws::laws::logins_begin_a_client;
 use pgw_handlers_default::DefaultStartupHandler;
 use pgw_types::listed::Duplicate;
 use std::alloc::Global;

@@ -91,9 +91,11 @@ returned_by_pool given.Foreign = returned.Kept
 -- a session was logged in; or no place was free, and nothing was dialled; or none was by the time
 -- that the session was logged in
 abbrev pub IsRefilled : Config → ℕ → List ℕ → Dials → Dials → Refilled → Type 0
-IsRefilled config limit nonce old new Added = (v : View) × PoolConnects config limit nonce old new v
+IsRefilled config limit nonce old new Added =
+    (v : View) × PoolConnects config limit nonce old new v
 IsRefilled config limit nonce old new Full = new ≡ old
-IsRefilled config limit nonce old new Displaced = (v : View) × PoolConnects config limit nonce old new v
+IsRefilled config limit nonce old new Displaced =
+    (v : View) × PoolConnects config limit nonce old new v
 
 -- why no shared pool was started: no pool was; or its sessions were connected, and then memory was
 -- wanting

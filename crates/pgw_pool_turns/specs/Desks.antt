@@ -32,7 +32,8 @@ module _ {S : Type 0} where
   abbrev pub LendsFirst : {Lent : Type 0} → (S → S → Lent → Type 0) → (S → Type 0) →
       TurnStock S → TurnStock S → Option Lent → Type 0
   LendsFirst lends is_spent old new (Some one) =
-      (¬ is_spent old.stock) × lends old.stock new.stock one × (new.counts ≡ after_lent_turn old.counts)
+      (¬ is_spent old.stock) × lends old.stock new.stock one
+      × (new.counts ≡ after_lent_turn old.counts)
   LendsFirst lends is_spent old new None =
       is_spent old.stock × (new ≡ held old.stock (after_empty_turn old.counts))
 

@@ -21,9 +21,11 @@ pub data TurnStep : TurnDesk → TurnDeed → TurnDesk → Type 0 where
   finds_none : (d : TurnDesk) → IsFree d → TurnStep d other (after_empty_turn d)
   joins : (d : TurnDesk) → TurnStep d (waits d.row.issued) (with_next_turn d)
   leaves : (d : TurnDesk) (ticket : ℕ) → TurnStep d (goes ticket) (gone ticket d)
-  lends_to : (d : TurnDesk) (ticket : ℕ) → IsTurn ticket d → TurnStep d (is_served ticket) (after_lent_turn d)
+  lends_to : (d : TurnDesk) (ticket : ℕ) → IsTurn ticket d
+      → TurnStep d (is_served ticket) (after_lent_turn d)
   -- it was its turn, and the stock had lent as many as it ever will
-  spends : (d : TurnDesk) (ticket : ℕ) → IsTurn ticket d → TurnStep d (is_served ticket) (after_empty_turn d)
+  spends : (d : TurnDesk) (ticket : ℕ) → IsTurn ticket d
+      → TurnStep d (is_served ticket) (after_empty_turn d)
   puts : (d : TurnDesk) → 0 < d.out → TurnStep d other (put d)
   loses : (d : TurnDesk) → TurnStep d other (lost d)
   claims : (d : TurnDesk) → HasPlace d → TurnStep d other (claimed d)

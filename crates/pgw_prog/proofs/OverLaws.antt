@@ -19,7 +19,9 @@ use Rattle.pgw_dialogue.specs.Demands.{RefusesKey}
 use Rattle.pgw_client.specs.OverLink.{LinkSpan, OverLink}
 
 -- what is known to come by fewer facts is said of fewer links
-pub foretold_less : {input : Input} {limit : ℕ} {more less : Type 0} {link : LinkSpan} {outcome : Result SessionReport PgWireClientError} → (less → more) → OverLink input limit more link outcome → OverLink input limit less link outcome
+pub foretold_less : {input : Input} {limit : ℕ} {more less : Type 0} {link : LinkSpan}
+    {outcome : Result SessionReport PgWireClientError}
+    → (less → more) → OverLink input limit more link outcome → OverLink input limit less link outcome
 foretold_less known over = record {
   refused = over.refused;
   demands = over.demands;
@@ -38,12 +40,32 @@ foretold_less known over = record {
 }
 
 -- the same of a link that was new
-pub from_fresh : (input : Input) (limit : ℕ) (foretells : Type 0) (link : LinkSpan) (outcome : Result SessionReport PgWireClientError) → link.old ≡ new_tape → link.before ≡ 0 → OverLink input limit foretells link outcome
-    → OverLink input limit foretells (record { old = new_tape; new = link.new; was = link.was; is = link.is; before = 0; now = link.now }) outcome
+pub from_fresh : (input : Input) (limit : ℕ) (foretells : Type 0) (link : LinkSpan)
+    (outcome : Result SessionReport PgWireClientError)
+    → link.old ≡ new_tape → link.before ≡ 0 → OverLink input limit foretells link outcome
+    → OverLink input limit foretells
+    (record { old = new_tape; new = link.new; was = link.was; is = link.is; before = 0; now = link.now })
+    outcome
 from_fresh input limit foretells link outcome fresh none over =
     let of : LinkSpan → Type 0 = λ (l : LinkSpan). OverLink input limit foretells l outcome in
-    let one = subst (λ (t : Tape). of (record { old = t; new = link.new; was = link.was; is = link.is; before = link.before; now = link.now })) fresh over in
-    subst (λ (n : ℕ). of (record { old = new_tape; new = link.new; was = link.was; is = link.is; before = n; now = link.now })) none one
+    let one =
+    subst (λ (t : Tape). of
+    (record {
+      old = t;
+      new = link.new;
+      was = link.was;
+      is = link.is;
+      before = link.before;
+      now = link.now;
+    })) fresh over in
+    subst (λ (n : ℕ). of (record {
+      old = new_tape;
+      new = link.new;
+      was = link.was;
+      is = link.is;
+      before = n;
+      now = link.now;
+    })) none one
 
 -- ---- where memory was wanting before the link was used
 
@@ -54,14 +76,17 @@ still tape left faults = record { old = tape; new = tape; was = left; is = left;
 abbrev pub wanting : Result SessionReport PgWireClientError
 wanting = Err client.OutOfMemory
 
-nothing_refused : (o : Option (List ℕ)) (tape : Tape) → o ≡ None → IfSome o (λ key. RefusesKey key wanting × (tape ≡ tape))
+nothing_refused : (o : Option (List ℕ)) (tape : Tape) → o ≡ None
+    → IfSome o (λ key. RefusesKey key wanting × (tape ≡ tape))
 nothing_refused None tape clear = tt
 nothing_refused (Some key) tape clear = cc
 
 nothing_moved : (tape : Tape) (fact : List ℕ → List ℕ → Type 0) → fact [] [] → MovedBy tape tape fact
 nothing_moved tape fact holds = ([], [], sym (append-nil tape.took), sym (append-nil tape.wrote), holds)
 
-pub nothing_held : (input : Input) (limit : ℕ) (foretells : Type 0) (tape : Tape) (left : Option (List ℕ)) (faults : ℕ) → refused_config input.config ≡ None → OverLink input limit foretells (still tape left faults) wanting
+pub nothing_held : (input : Input) (limit : ℕ) (foretells : Type 0) (tape : Tape) (left : Option (List ℕ))
+    (faults : ℕ)
+    → refused_config input.config ≡ None → OverLink input limit foretells (still tape left faults) wanting
 nothing_held input limit foretells tape left faults clear = record {
   refused = nothing_refused (refused_config input.config) tape clear;
   demands = λ key is. absurd cc;
@@ -69,7 +94,8 @@ nothing_held input limit foretells tape left faults clear = record {
   failing = λ more. absurd (omega (arith, more));
   completed = tt;
   causes = nothing_moved tape (λ taken sent. ErrorCause input limit tape tape taken sent client.OutOfMemory) tt;
-  told = λ c. nothing_moved tape (TellsSession input wanting) (sent_of (conversation input []), bytes_told input [], tt);
+  told = λ c. nothing_moved tape (TellsSession input wanting)
+      (sent_of (conversation input []), bytes_told input [], tt);
   paced = refused_paced limit tape;
   lockstep = inl refl;
   flushed = λ c other. inl (refl, refl);

@@ -15,14 +15,21 @@ use Rattle.pgw_prog.specs.Transfer.{SourceSpan, TookWhole}
 use Rattle.pgw_prog.proofs.KindLaws.{script_prints}
 
 -- what is printed of an outcome
-pub outcome_printed : (s : PoolScript) (o : PoolOutcome) (r : Result Printed OutOfMemory) → RunsPool s o → IfOk r (λ p. Says p (pool_text o) (pool_status o)) → IfOk r (PrintsPool s)
+pub outcome_printed : (s : PoolScript) (o : PoolOutcome) (r : Result Printed OutOfMemory) → RunsPool s o
+    → IfOk r (λ p. Says p (pool_text o) (pool_status o)) → IfOk r (PrintsPool s)
 outcome_printed s o (Ok p) runs says = (o, runs, says)
 outcome_printed s o (Err e) runs says = tt
 
-pool_prints : (script : PoolScript) (p : Printed) (before now : List ℕ) → PrintsPool script p → now ≡ before ++ p.text.items → PrintsPoolText script before now p.status
-pool_prints script p before now (o, runs, says) wrote = inr (o, runs, says.1, wrote ∙ ap (λ (t : List ℕ). before ++ t) says.0)
+pool_prints : (script : PoolScript) (p : Printed) (before now : List ℕ) → PrintsPool script p
+    → now ≡ before ++ p.text.items → PrintsPoolText script before now p.status
+pool_prints script p before now (o, runs, says) wrote =
+    inr (o, runs, says.1, wrote ∙ ap (λ (t : List ℕ). before ++ t) says.0)
 
-pub pool_written : (source : SourceSpan) (p : Printed) (before now : List ℕ) → AnswersScript scripts_of.Pool source p → now ≡ before ++ p.text.items
-    → (text : List ℕ) → TookWhole source.old source.new text → (script : PoolScript) → IsPoolScript text script → PrintsPoolText script before now p.status
+pub pool_written : (source : SourceSpan) (p : Printed) (before now : List ℕ)
+    → AnswersScript scripts_of.Pool source p → now ≡ before ++ p.text.items
+    → (text : List ℕ) → TookWhole source.old source.new text → (script : PoolScript) → IsPoolScript text script
+    → PrintsPoolText script before now p.status
 pool_written source p before now answers wrote text whole script is =
-    pool_prints script p before now (script_prints pool_form PrintsPool scripts_of.Pool (λ t q h. h) source text script p whole is answers) wrote
+    pool_prints script p before now
+    (script_prints pool_form PrintsPool scripts_of.Pool (λ t q h. h) source text script p whole is answers)
+    wrote

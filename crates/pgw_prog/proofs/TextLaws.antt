@@ -28,7 +28,8 @@ join : (a b : Bool) → a ≡ true → b ≡ true → (a && b) ≡ true
 join a b h k = rw (h, k) refl
 
 -- two lines that end alike begin alike, and what stands behind them is the same
-lines_same : (xs ys r s : List ℕ) → list_all goes_on xs ≡ true → list_all goes_on ys ≡ true → xs ++ 10 ∷ r ≡ ys ++ 10 ∷ s → (xs ≡ ys) × (r ≡ s)
+lines_same : (xs ys r s : List ℕ) → list_all goes_on xs ≡ true → list_all goes_on ys ≡ true
+    → xs ++ 10 ∷ r ≡ ys ++ 10 ∷ s → (xs ≡ ys) × (r ≡ s)
 lines_same [] [] r s a b e = (refl, cc)
 lines_same [] (y ∷ ys) r s a b e =
     let here : y ≡ 10 = cc in
@@ -41,7 +42,9 @@ lines_same (x ∷ xs) [] r s a b e =
 lines_same (x ∷ xs) (y ∷ ys) r s a b e =
     let tails : xs ++ 10 ∷ r ≡ ys ++ 10 ∷ s = cc in
     let heads : x ≡ y = cc in
-    let rest = lines_same xs ys r s (split (goes_on x) (list_all goes_on xs) a).1 (split (goes_on y) (list_all goes_on ys) b).1 tails in
+    let rest =
+    lines_same xs ys r s (split (goes_on x) (list_all goes_on xs) a).1
+    (split (goes_on y) (list_all goes_on ys) b).1 tails in
     (ap (λ z. z ∷ xs) heads ∙ ap (λ (l : List ℕ). y ∷ l) rest.0, rest.1)
 
 at_goes_on : (t : List ℕ) (n : ℕ) → list_all goes_on t ≡ true → goes_on (slice_index t n) ≡ true
@@ -53,7 +56,8 @@ digits_go_on : (bytes : List ℕ) → list_all goes_on (encode_with lower_digits
 unfolding encode_with
 digits_go_on [] = refl
 digits_go_on (b ∷ bs) =
-    join _ _ (at_goes_on lower_digits (b / 16) refl) (join _ _ (at_goes_on lower_digits (b % 16) refl) (digits_go_on bs))
+    join _ _ (at_goes_on lower_digits (b / 16) refl)
+    (join _ _ (at_goes_on lower_digits (b % 16) refl) (digits_go_on bs))
 
 hex_goes_on : (bytes : List ℕ) → list_all goes_on (in_hex bytes) ≡ true
 unfolding in_hex
@@ -78,7 +82,8 @@ sent_same : (a b r s : List ℕ) → sent_line a ++ r ≡ sent_line b ++ s → (
 unfolding sent_line
 sent_same a b r s e =
     let front : List ℕ → List ℕ = λ bytes. codes "sent " ++ in_hex bytes in
-    let same : front a ++ 10 ∷ r ≡ front b ++ 10 ∷ s = sym (append_assoc (front a) line_end r) ∙ e ∙ append_assoc (front b) line_end s in
+    let same : front a ++ 10 ∷ r ≡ front b ++ 10 ∷ s =
+    sym (append_assoc (front a) line_end r) ∙ e ∙ append_assoc (front b) line_end s in
     let parts = lines_same (front a) (front b) r s (hex_goes_on a) (hex_goes_on b) same in
     let digits : in_hex a ≡ in_hex b = cc in
     (hex_length a b (ap length digits), parts.1)
@@ -97,7 +102,8 @@ no_report r e is =
     let same : 118 ≡ 101 = ap (λ (l : List ℕ). slice_index l 0) other in
     absurd (omega (arith, same))
 
-name_same : (e : PgWireClientError) → client_name e ++ line_end ≡ client_name client.IoError ++ line_end → e ≡ client.IoError
+name_same : (e : PgWireClientError) → client_name e ++ line_end ≡ client_name client.IoError ++ line_end
+    → e ≡ client.IoError
 unfolding client_name
 name_same client.IoError is = refl
 name_same (client.InvalidConfig a) is = cc
@@ -127,9 +133,12 @@ not_io (config_error.InvalidUtf8ConfigValue bytes) is = cc
 not_io config_error.OutOfMemory is = cc
 
 -- a text that says so is that of a session that the link failed, with as many bytes sent
-pub io_text : (a b : List ℕ) (outcome : Result SessionReport PgWireClientError) → session_text a outcome ≡ session_text b (Err client.IoError) → (length a ≡ length b) × (outcome ≡ Err client.IoError)
+pub io_text : (a b : List ℕ) (outcome : Result SessionReport PgWireClientError)
+    → session_text a outcome ≡ session_text b (Err client.IoError)
+    → (length a ≡ length b) × (outcome ≡ Err client.IoError)
 unfolding session_text
-io_text a b (Ok r) is = absurd (no_report r client.IoError (sent_same a b (report_lines r) (error_line client.IoError) is).1)
+io_text a b (Ok r) is =
+    absurd (no_report r client.IoError (sent_same a b (report_lines r) (error_line client.IoError) is).1)
 io_text a b (Err e) is =
     let same = sent_same a b (error_line e) (error_line client.IoError) is in
     (same.0, ap Err (error_same e same.1))
@@ -140,7 +149,8 @@ not_sent a e is =
     let same : 99 ≡ 101 = ap (λ (l : List ℕ). slice_index l 1) is in
     absurd (omega (arith, same))
 
-pub no_line : (a more : List ℕ) (e : PgWireClientError) → codes "line " ++ more ++ line_end ≡ session_text a (Err e) → ⊥
+pub no_line : (a more : List ℕ) (e : PgWireClientError)
+    → codes "line " ++ more ++ line_end ≡ session_text a (Err e) → ⊥
 unfolding session_text sent_line
 no_line a more e is =
     let same : 108 ≡ 115 = ap (λ (l : List ℕ). slice_index l 0) is in

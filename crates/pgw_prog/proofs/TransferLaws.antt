@@ -7,19 +7,26 @@ use Rattle.pgw_link.specs.Stream.{SourceTape, SinkTape, DrewSource, NotDrawn, Po
 use Rattle.pgw_prog.specs.Transfer.{SourceSpan, TookFront, TookWhole, TookTooMany}
 
 -- the first bytes, and then some of the range behind them
-pub take_on : (text : List ℕ) (at n : ℕ) → take (at + n) text ≡ take at text ++ take n (take (length text - at) (drop at text))
+pub take_on : (text : List ℕ) (at n : ℕ)
+    → take (at + n) text ≡ take at text ++ take n (take (length text - at) (drop at text))
 take_on text at n =
-    take-add at n text ∙ ap (λ (r : List ℕ). take at text ++ take n r) (sym (take_all (length text - at) (drop at text) (omega (arith, length-drop at text))))
+    take-add at n text
+    ∙ ap (λ (r : List ℕ). take at text ++ take n r)
+    (sym (take_all (length text - at) (drop at text) (omega (arith, length-drop at text))))
 
 -- a write puts the next of them behind those that were written
-pub put_on : {mid new : SinkTape} (old : SinkTape) (text : List ℕ) (at n : ℕ) → Poured mid new (take n (take (length text - at) (drop at text))) → mid.wrote ≡ old.wrote ++ take at text → new.wrote ≡ old.wrote ++ take (at + n) text
+pub put_on : {mid new : SinkTape} (old : SinkTape) (text : List ℕ) (at n : ℕ)
+    → Poured mid new (take n (take (length text - at) (drop at text))) → mid.wrote ≡ old.wrote ++ take at text
+    → new.wrote ≡ old.wrote ++ take (at + n) text
 put_on old text at n put was =
     let part = take n (take (length text - at) (drop at text)) in
-    put.wrote ∙ ap (λ (w : List ℕ). w ++ part) was ∙ append_assoc old.wrote (take at text) part ∙ ap (λ (w : List ℕ). old.wrote ++ w) (sym (take_on text at n))
+    put.wrote ∙ ap (λ (w : List ℕ). w ++ part) was ∙ append_assoc old.wrote (take at text) part
+    ∙ ap (λ (w : List ℕ). old.wrote ++ w) (sym (take_on text at n))
 
 -- ---- known bytes over several reads
 
-consumes_on : (a b c : Option (List ℕ)) (xs ys : List ℕ) → Consumes a b xs → Consumes b c ys → Consumes a c (xs ++ ys)
+consumes_on : (a b c : Option (List ℕ)) (xs ys : List ℕ) → Consumes a b xs → Consumes b c ys
+    → Consumes a c (xs ++ ys)
 consumes_on None b c xs ys h k = tt
 consumes_on (Some p) None c xs ys h k = absurd h
 consumes_on (Some p) (Some q) None xs ys h k = absurd k
@@ -45,9 +52,11 @@ pub record Drawn (old new : SourceTape) (was is : Option (List ℕ)) (text : Lis
   pub foreseen : Consumes was is text
 
 pub none_drawn : (tape : SourceTape) (left : Option (List ℕ)) → Drawn tape tape left left []
-none_drawn tape left = record { took = sym (append-nil tape.took); ended = refl; reads = omega arith; foreseen = consumes_none left }
+none_drawn tape left =
+    record { took = sym (append-nil tape.took); ended = refl; reads = omega arith; foreseen = consumes_none left }
 
-pub drawn_on : (old mid new : SourceTape) (was left is : Option (List ℕ)) (text piece : List ℕ) → Drawn old mid was left text → 0 < length piece → DrewSource mid new piece → Consumes left is piece
+pub drawn_on : (old mid new : SourceTape) (was left is : Option (List ℕ)) (text piece : List ℕ)
+    → Drawn old mid was left text → 0 < length piece → DrewSource mid new piece → Consumes left is piece
     → Drawn old new was is (text ++ piece)
 drawn_on old mid new was left is text piece d some drew known = record {
   took = drew.took ∙ ap (λ (t : List ℕ). t ++ piece) d.took ∙ append_assoc old.took text piece;
@@ -58,10 +67,19 @@ drawn_on old mid new was left is text piece d some drew known = record {
 
 -- a text that was drawn is a front,
 pub drawn_front : (s : SourceSpan) (text : List ℕ) → Drawn s.old s.new s.was s.is text → TookFront s
-drawn_front s text d = record { taken = text; took = d.took; reads = omega (arith, d.reads); foreseen = d.foreseen; at_end = λ more. absurd (omega (arith, more, d.ended)) }
+drawn_front s text d =
+    record {
+      taken = text;
+      took = d.took;
+      reads = omega (arith, d.reads);
+      foreseen = d.foreseen;
+      at_end = λ more.
+          absurd (omega (arith, more, d.ended));
+    }
 
 -- also where the next read failed,
-pub failed_front : (s : SourceSpan) (mid : SourceTape) (left : Option (List ℕ)) (text : List ℕ) → Drawn s.old mid s.was left text → NotDrawn mid s.new → Keeps left s.is → TookFront s
+pub failed_front : (s : SourceSpan) (mid : SourceTape) (left : Option (List ℕ)) (text : List ℕ)
+    → Drawn s.old mid s.was left text → NotDrawn mid s.new → Keeps left s.is → TookFront s
 failed_front s mid left text d failed kept = record {
   taken = text;
   took = failed.took ∙ d.took;
@@ -71,7 +89,9 @@ failed_front s mid left text d failed kept = record {
 }
 
 -- or answered the end
-pub ended_front : (s : SourceSpan) (mid : SourceTape) (left : Option (List ℕ)) (text piece : List ℕ) → Drawn s.old mid s.was left text → DrewSource mid s.new piece → length piece ≡ 0 → Consumes left s.is piece → IsAtEnd s.is → TookFront s
+pub ended_front : (s : SourceSpan) (mid : SourceTape) (left : Option (List ℕ)) (text piece : List ℕ)
+    → Drawn s.old mid s.was left text → DrewSource mid s.new piece → length piece ≡ 0 → Consumes left s.is piece
+    → IsAtEnd s.is → TookFront s
 ended_front s mid left text piece d drew none known at_end = record {
   taken = text ++ piece;
   took = drew.took ∙ ap (λ (t : List ℕ). t ++ piece) d.took ∙ append_assoc s.old.took text piece;
@@ -80,7 +100,9 @@ ended_front s mid left text piece d drew none known at_end = record {
   at_end = λ more. at_end;
 }
 
-pub ended_whole : (old mid new : SourceTape) (was left : Option (List ℕ)) (text piece : List ℕ) → Drawn old mid was left text → DrewSource mid new piece → length piece ≡ 0 → length text ≤ 16777216 → TookWhole old new text
+pub ended_whole : (old mid new : SourceTape) (was left : Option (List ℕ)) (text piece : List ℕ)
+    → Drawn old mid was left text → DrewSource mid new piece → length piece ≡ 0 → length text ≤ 16777216
+    → TookWhole old new text
 ended_whole old mid new was left text piece d drew none short =
     let empty : piece ≡ [] = nil_from_length piece none in
     record {
@@ -89,7 +111,8 @@ ended_whole old mid new was left text piece d drew none short =
       short = short;
     }
 
-pub drawn_too_many : (old new : SourceTape) (was is : Option (List ℕ)) (text : List ℕ) → Drawn old new was is text → 16777216 < length text → TookTooMany old new
+pub drawn_too_many : (old new : SourceTape) (was is : Option (List ℕ)) (text : List ℕ) → Drawn old new was is text
+    → 16777216 < length text → TookTooMany old new
 drawn_too_many old new was is text d long = record { taken = text; took = d.took; long = long }
 
 -- a source that was left alone

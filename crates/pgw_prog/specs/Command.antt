@@ -24,11 +24,14 @@ queries_of texts = map (λ text. request.Simple text) texts
 -- a session with this limit, where there is one
 abbrev pub connect_with : List ℕ → List (List ℕ) → Option ℕ → Command
 connect_with text queries None = command.Usage
-connect_with text queries (Some limit) = command.Connect (record { text = text; limit = limit; requests = queries_of queries })
+connect_with text queries (Some limit) =
+    command.Connect (record { text = text; limit = limit; requests = queries_of queries })
 
 -- connect TEXT LIMIT QUERY, with one or more queries
 unfoldable pub connect_for : List ℕ → List ℕ → List ℕ → List (List ℕ) → Command
-connect_for word text limit queries = if pointwise nat_eq word (codes "connect") then connect_with text queries (script_number limit) else command.Usage
+connect_for word text limit queries =
+    if pointwise nat_eq word (codes "connect") then connect_with text queries
+    (script_number limit) else command.Usage
 
 -- a number, where it is one up to this
 abbrev pub within : ℕ → Option ℕ → Option ℕ
@@ -45,7 +48,9 @@ gen_with _ _ = command.Usage
 
 -- gen ROWS START, with at most 1000000 rows and a number of 32 bits
 unfoldable pub gen_for : List ℕ → List ℕ → List ℕ → Command
-gen_for word rows start = if pointwise nat_eq word (codes "gen") then gen_with (up_to 1000000 rows) (up_to 4294967295 start) else command.Usage
+gen_for word rows start =
+    if pointwise nat_eq word (codes "gen") then gen_with (up_to 1000000 rows)
+    (up_to 4294967295 start) else command.Usage
 
 -- the secret of a password, with a count of 1 or more
 abbrev pub secret_with : List ℕ → Option ℕ → Command

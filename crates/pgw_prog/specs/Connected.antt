@@ -33,7 +33,8 @@ input_for asked nonce config = input_with config asked.requests nonce
 
 -- the connection text is a configuration, which leads to this address
 abbrev pub TextLeadsTo : Connection → Config → Address → Type 0
-TextLeadsTo asked config address = HasOutcome asked.text (Ok config) × (address_of config ≡ Ok address)
+TextLeadsTo asked config address =
+    HasOutcome asked.text (Ok config) × (address_of config ≡ Ok address)
 
 -- the bytes that the next of these links has to come
 abbrev pub next_offer : Option (List (List ℕ)) → Option (List ℕ)
@@ -96,11 +97,14 @@ pub record HoldsDialerSession (input : Input) (limit : ℕ) (to : Address) (dial
   pub offered : dialer.foretells → was ≡ dialer.offer
   pub is : Option (List ℕ)
   pub over : OverLink input limit dialer.foretells
-      (record { old = new_tape; new = after; was = was; is = is; before = 0; now = faults }) outcome
+      (record { old = new_tape; new = after; was = was; is = is; before = 0; now = faults })
+      outcome
 
 -- one of the two
-abbrev pub IsDialOutcome : Input → ℕ → Address → DialSpan → Result SessionReport PgWireClientError → Type 0
-IsDialOutcome input limit to dialer outcome = FoundNoLink to dialer outcome ⊎ HoldsDialerSession input limit to dialer outcome
+abbrev pub IsDialOutcome : Input → ℕ → Address → DialSpan → Result SessionReport PgWireClientError
+    → Type 0
+IsDialOutcome input limit to dialer outcome =
+    FoundNoLink to dialer outcome ⊎ HoldsDialerSession input limit to dialer outcome
 
 -- ---- the dialer, whatever is printed
 
@@ -131,24 +135,30 @@ abbrev pub PrintsRefusal : ConfigError → Printed → Type 0
 PrintsRefusal e p = (e ≢ config_error.OutOfMemory) × Says p (error_line (of_config e)) 1
 
 -- the answer, for which memory sufficed
-pub record PrintsTalk (input : Input) (limit : ℕ) (to : Address) (dialer : DialSpan) (p : Printed) : Type 0 where
+pub record PrintsTalk (input : Input) (limit : ℕ) (to : Address) (dialer : DialSpan) (p : Printed)
+    : Type 0 where
   pub outcome : Result SessionReport PgWireClientError
   pub talked : IsDialOutcome input limit to dialer outcome
   pub memory : IsErrOf outcome client.OutOfMemory → ⊥
   pub says : Says p (result_text outcome) (exit_status outcome)
 
 -- what is printed at the address, or of the refusal that there is none
-abbrev pub PrintsAtAddress : List ℕ → DialSpan → Connection → Config → Result Address ConfigError → Printed → Type 0
-PrintsAtAddress nonce dialer asked config (Ok address) p = PrintsTalk (input_for asked nonce config) asked.limit address dialer p
+abbrev pub PrintsAtAddress : List ℕ → DialSpan → Connection → Config → Result Address ConfigError
+    → Printed → Type 0
+PrintsAtAddress nonce dialer asked config (Ok address) p =
+    PrintsTalk (input_for asked nonce config) asked.limit address dialer p
 PrintsAtAddress nonce dialer asked config (Err e) p = PrintsRefusal e p
 
 -- what is printed where the connection text has this outcome
-abbrev pub PrintsBy : List ℕ → DialSpan → Connection → Result Config ConfigError → Printed → Type 0
-PrintsBy nonce dialer asked (Ok config) p = PrintsAtAddress nonce dialer asked config (address_of config) p
+abbrev pub PrintsBy : List ℕ → DialSpan → Connection → Result Config ConfigError → Printed
+    → Type 0
+PrintsBy nonce dialer asked (Ok config) p =
+    PrintsAtAddress nonce dialer asked config (address_of config) p
 PrintsBy nonce dialer asked (Err e) p = PrintsRefusal e p
 
 -- what is printed is what the one outcome of the connection text gives
-pub record PrintsConnection (nonce : List ℕ) (dialer : DialSpan) (asked : Connection) (p : Printed) : Type 0 where
+pub record PrintsConnection (nonce : List ℕ) (dialer : DialSpan) (asked : Connection)
+    (p : Printed) : Type 0 where
   pub outcome : Result Config ConfigError
   pub has : HasOutcome asked.text outcome
   pub only : (other : Result Config ConfigError) → HasOutcome asked.text other → other ≡ outcome
@@ -158,7 +168,8 @@ pub record PrintsConnection (nonce : List ℕ) (dialer : DialSpan) (asked : Conn
 
 -- the text is a configuration that demands nothing that is refused and leads to an address, and the bytes that are
 -- offered complete a transcript with these segments within the limit
-pub record CanConnect (asked : Connection) (nonce offer : List ℕ) (segments : List (List Event)) : Type 0 where
+pub record CanConnect (asked : Connection) (nonce offer : List ℕ) (segments : List (List Event)) :
+    Type 0 where
   pub config : Config
   pub address : Address
   pub leads : TextLeadsTo asked config address
@@ -166,7 +177,10 @@ pub record CanConnect (asked : Connection) (nonce offer : List ℕ) (segments : 
   pub completes : Completes (input_for asked nonce config) asked.limit offer segments
 
 -- its report is printed, or memory ran out
-abbrev pub PrintsReport : (asked : Connection) (nonce offer : List ℕ) (segments : List (List Event))
+abbrev pub PrintsReport : (asked : Connection) (nonce offer : List ℕ)
+    (segments : List (List Event))
     → CanConnect asked nonce offer segments → List ℕ → List ℕ → ℕ → Type 0
 PrintsReport asked nonce offer segments can before now status =
-    (status ≡ 4) ⊎ ((status ≡ 0) × (now ≡ before ++ report_lines (report_of (input_for asked nonce can.config) segments)))
+    (status ≡ 4)
+    ⊎ ((status ≡ 0) × (now ≡ before ++ report_lines
+    (report_of (input_for asked nonce can.config) segments)))

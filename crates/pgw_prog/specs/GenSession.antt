@@ -8,7 +8,8 @@ use Rattle.pgw_prog_generate.specs.Summary.{gen_input, summary_of}
 use Rattle.pgw_client.specs.OverLink.{LinkSpan, OverLink}
 
 -- the answer of a session told shortly: the summary of its report, or its error
-abbrev pub TellsSummary : Result SessionReport ClientError → Result GenSummary ClientError → Type 0
+abbrev pub TellsSummary : Result SessionReport ClientError → Result GenSummary ClientError
+    → Type 0
 TellsSummary (Ok report) (Ok summary) = summary ≡ summary_of report
 TellsSummary (Ok report) (Err e) = ⊥
 TellsSummary (Err e) (Ok summary) = ⊥

@@ -24,17 +24,27 @@ use Rattle.pgw_prog_printing.specs.SessionText.{session_text}
 -- the session that the script asks for, with this configuration
 abbrev pub script_input : Script → Config → Input
 script_input s config =
-    input_with (record config { protocol_version = s.protocol_version; certificate_hash = s.certificate_hash })
+    input_with (record config
+    { protocol_version = s.protocol_version; certificate_hash = s.certificate_hash })
     s.requests s.nonce
 
 -- the link that the script describes
 abbrev pub script_making : Script → Making
-script_making s = record { server = s.server; cut = s.cut; reads = s.fail_reads; writes = s.fail_writes }
+script_making s =
+    record { server = s.server; cut = s.cut; reads = s.fail_reads; writes = s.fail_writes }
 
 -- a new link in memory, what it tells after some calls, what is to come then, and how many calls failed
 abbrev pub memory_span : Making → Tape → List ℕ → ℕ → LinkSpan
 memory_span made after left faults =
-    record { old = new_tape; new = after; was = Some made.server; is = Some left; before = 0; now = faults }
+    record {
+      old = new_tape;
+      new = after;
+      was = Some made.server;
+      is = Some left;
+      before = 0;
+      now
+          = faults;
+    }
 
 -- one of these numbers is that of a call, counted from 1, and is at most this
 abbrev pub NamesCall : List ℕ → ℕ → Type 0
@@ -42,7 +52,8 @@ NamesCall numbers most = Any (λ n. (0 < n) × (n ≤ most)) numbers
 
 -- a listed read is at most one more than the bytes read, or a listed write at most one more than the bytes written
 abbrev pub IsNear : Making → List ℕ → List ℕ → Type 0
-IsNear made taken sent = NamesCall made.reads (length taken + 1) ⊎ NamesCall made.writes (length sent + 1)
+IsNear made taken sent =
+    NamesCall made.reads (length taken + 1) ⊎ NamesCall made.writes (length sent + 1)
 
 -- no call moved more bytes than the cut
 pub record InCuts (made : Making) (after : Tape) : Type 0 where
@@ -51,7 +62,8 @@ pub record InCuts (made : Making) (after : Tape) : Type 0 where
 
 -- What a session over a new link in memory gives: what the link tells afterwards, what is to come, how many calls failed,
 -- the answer.
-pub record MemorySession (input : Input) (limit : ℕ) (made : Making) (after : Tape) (left : List ℕ)
+pub record MemorySession (input : Input) (limit : ℕ) (made : Making) (after : Tape)
+    (left : List ℕ)
     (faults : ℕ) (outcome : Result SessionReport PgWireClientError) : Type 0 where
   -- what a session over any link gives
   pub over : OverLink input limit (Unit {0}) (memory_span made after left faults) outcome
@@ -59,7 +71,8 @@ pub record MemorySession (input : Input) (limit : ℕ) (made : Making) (after : 
   pub cut : InCuts made after
   -- a call failed just where one was made whose number is listed
   pub fails : nat_lt 0 faults
-      ≡ (is_reached made.reads (call_number after.reads) || is_reached made.writes (call_number after.writes))
+      ≡ (is_reached made.reads (call_number after.reads) || is_reached made.writes
+      (call_number after.writes))
   -- so the error of the link comes only where a listed call is near,
   pub io_near : IsErrOf outcome client.IoError → IsNear made after.took after.wrote
   -- and never where none is listed
@@ -88,7 +101,8 @@ Says p text status = (p.text.items ≡ text) × (p.status ≡ status)
 -- refusal, which is not want of memory, and that nothing was sent
 abbrev pub PrintsOutcome : Script → Result Config ConfigError → Printed → Type 0
 PrintsOutcome s (Ok config) p = PrintsSession (script_input s config) s.limit (script_making s) p
-PrintsOutcome s (Err e) p = (e ≢ config_error.OutOfMemory) × Says p (session_text [] (Err (of_config e))) 1
+PrintsOutcome s (Err e) p =
+    (e ≢ config_error.OutOfMemory) × Says p (session_text [] (Err (of_config e))) 1
 
 -- what is printed is what the one outcome of the script's connection text gives
 pub record Holds (s : Script) (p : Printed) : Type 0 where
@@ -108,8 +122,10 @@ pub record CanComplete (s : Script) (segments : List (List Event)) : Type 0 wher
   pub completes : Completes (script_input s config) s.limit s.server segments
 
 -- what is printed of it: the bytes sent in the transcript, and its report
-abbrev pub completed_text : (s : Script) (segments : List (List Event)) → CanComplete s segments → List ℕ
-completed_text s segments can = session_text can.completes.sent (Ok (report_of (script_input s can.config) segments))
+abbrev pub completed_text : (s : Script) (segments : List (List Event)) → CanComplete s segments
+    → List ℕ
+completed_text s segments can =
+    session_text can.completes.sent (Ok (report_of (script_input s can.config) segments))
 
 -- of the script's link a listed read is at most one more than the server's bytes, or a listed write at most one more than
 -- these bytes sent

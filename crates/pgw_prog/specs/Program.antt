@@ -66,19 +66,27 @@ AnswersScript kind source p =
 -- what a command prints: of a script of any kind, and of a file of passwords, by the bytes that were read for it; help
 -- and version are fixed texts; a session with a server is told by `Connects`, `gen` prints what it made, and a secret is that
 -- of a password and of words that were drawn
-abbrev pub PrintsCommand : List ℕ → List ℕ → List ℕ → List ℕ → SourceSpan → DialSpan → Command → Printed
+abbrev pub PrintsCommand : List ℕ → List ℕ → List ℕ → List ℕ → SourceSpan → DialSpan → Command
+    → Printed
     → Type 0
 PrintsCommand help version nonce words source dialer kind.Help p = Says p help 0
 PrintsCommand help version nonce words source dialer kind.Version p = Says p version 0
-PrintsCommand help version nonce words source dialer kind.Script p = AnswersScript scripts.Session source p
-PrintsCommand help version nonce words source dialer kind.Pair p = AnswersScript scripts.Pair source p
-PrintsCommand help version nonce words source dialer kind.Relay p = AnswersScript scripts.Relay source p
-PrintsCommand help version nonce words source dialer kind.Pool p = AnswersScript scripts.Pool source p
-PrintsCommand help version nonce words source dialer (kind.Connect asked) p = PrintsConnection nonce dialer asked p
-PrintsCommand help version nonce words source dialer (kind.Gen rows start) p = SaysGen rows start p
+PrintsCommand help version nonce words source dialer kind.Script p =
+    AnswersScript scripts.Session source p
+PrintsCommand help version nonce words source dialer kind.Pair p =
+    AnswersScript scripts.Pair source p
+PrintsCommand help version nonce words source dialer kind.Relay p =
+    AnswersScript scripts.Relay source p
+PrintsCommand help version nonce words source dialer kind.Pool p =
+    AnswersScript scripts.Pool source p
+PrintsCommand help version nonce words source dialer (kind.Connect asked) p =
+    PrintsConnection nonce dialer asked p
+PrintsCommand help version nonce words source dialer (kind.Gen rows start) p =
+    SaysGen rows start p
 PrintsCommand help version nonce words source dialer (kind.Secret asked) p =
     SaysSecret asked.password asked.count words p
-PrintsCommand help version nonce words source dialer (kind.Passfile asked) p = AnswersPassfile asked source p
+PrintsCommand help version nonce words source dialer (kind.Passfile asked) p =
+    AnswersPassfile asked source p
 PrintsCommand help version nonce words source dialer kind.Usage p = Says p (codes "usage\n") 2
 
 -- the whole text of the answer behind what was written before, and its status
@@ -97,9 +105,10 @@ pub record PrintsFront (told : Printed → Type 0) (old new : SinkTape) : Type 0
   pub wrote : new.wrote ≡ old.wrote ++ take count printed.text.items
 
 -- the text is a script that completes its session
-pub record Completing (text : List ℕ) (script : Script) (segments : List (List Event)) : Type 0 where
-  pub is_script : IsScript text script
-  pub can : CanComplete script segments
+pub record Completing (text : List ℕ) (script : Script) (segments : List (List Event)) : Type 0
+  where
+    pub is_script : IsScript text script
+    pub can : CanComplete script segments
 
 -- memory ran out, or the status is 0 and the whole text of the completed session is written
 abbrev pub PrintsWhole : (text : List ℕ) (script : Script) (segments : List (List Event))
@@ -110,7 +119,8 @@ PrintsWhole text script segments c before now status =
 -- the text that was read is a script that lists a read to fail near to the server's bytes, or a write near to these sent
 abbrev pub ListsFailure : SourceTape → SourceTape → List ℕ → Type 0
 ListsFailure old new sent =
-    (text : List ℕ) × TookWhole old new text × (script : Script) × IsScript text script × FailsNear script sent
+    (text : List ℕ) × TookWhole old new text × (script : Script) × IsScript text script
+    × FailsNear script sent
 
 -- bytes were written, with at most one write more than bytes
 pub record AppendsToSink (old new : SinkTape) : Type 0 where
@@ -120,7 +130,8 @@ pub record AppendsToSink (old new : SinkTape) : Type 0 where
 
 -- the count of the source's faults rose where it failed, which was before its end, and stayed where memory ran out
 abbrev pub CountsStop : Stop → SourceSpan → Type 0
-CountsStop stop.Source source = Rose source.before source.now × (source.new.ended ≡ source.old.ended)
+CountsStop stop.Source source =
+    Rose source.before source.now × (source.new.ended ≡ source.old.ended)
 CountsStop stop.OutOfMemory source = source.now ≡ source.before
 
 -- All that is promised of a run of the program: the texts of its help and its version, the nonce of a login and the words of
@@ -129,12 +140,15 @@ pub record ProgramRan (help version nonce words : List ℕ) (command : Command)
     (source : SourceSpan) (sink : SinkSpan) (dialer : DialSpan) (status : ℕ) : Type 0 where
   pub status_in : status ≤ 4
   -- At 0, 1 and 2 the whole text of the answer is written, and the status is the answer's.
-  pub prints : status ≤ 2 → PrintsAnswer (PrintsCommand help version nonce words source dialer command) sink.old sink.new status
+  pub prints : status ≤ 2
+      → PrintsAnswer (PrintsCommand help version nonce words source dialer command) sink.old
+      sink.new status
   -- 3 comes only where a read of the source failed, and then nothing is written, or where a write failed: what is written
   -- then is a front of the text.
   pub fault : status ≡ 3 →
       ((reads_source command ≡ true) × Rose source.before source.now × sink.same)
-      ⊎ (Rose sink.before sink.now × PrintsFront (PrintsCommand help version nonce words source dialer command) sink.old sink.new)
+      ⊎ (Rose sink.before sink.now × PrintsFront
+      (PrintsCommand help version nonce words source dialer command) sink.old sink.new)
   -- It comes wherever one failed.
   pub source_fault : source.before < source.now → (status ≡ 3) × sink.same
   pub sink_fault : sink.before < sink.now → status ≡ 3
@@ -161,8 +175,10 @@ pub record ProgramRan (help version nonce words : List ℕ) (command : Command)
   pub dials : dialer.before ≤ dialer.now
   pub leaves : LeavesDialer nonce command dialer
   -- A session with a server, whose bytes are known to come and complete it, is reported whole.
-  pub connects : dialer.foretells → (Rose dialer.before dialer.now → ⊥) → (Rose sink.before sink.now → ⊥)
-      → (asked : Connection) → command ≡ kind.Connect asked → (offer : List ℕ) → dialer.offer ≡ Some offer
+  pub connects : dialer.foretells → (Rose dialer.before dialer.now → ⊥)
+      → (Rose sink.before sink.now → ⊥)
+      → (asked : Connection) → command ≡ kind.Connect asked → (offer : List ℕ)
+      → dialer.offer ≡ Some offer
       → (segments : List (List Event)) (can : CanConnect asked nonce offer segments)
       → PrintsReport asked nonce offer segments can sink.old.wrote sink.new.wrote status
   -- Of a session with a server IoError is printed only where the dialer's count rose.
@@ -170,7 +186,8 @@ pub record ProgramRan (help version nonce words : List ℕ) (command : Command)
       → sink.new.wrote ≡ sink.old.wrote ++ error_line client.IoError
       → Rose dialer.before dialer.now
   -- Of a session of any size the number of its rows is printed, the length of its stream, and the digest of its rows.
-  pub generates : (Rose sink.before sink.now → ⊥) → (rows start : ℕ) → command ≡ kind.Gen rows start
+  pub generates : (Rose sink.before sink.now → ⊥) → (rows start : ℕ)
+      → command ≡ kind.Gen rows start
       → PrintsGen rows start sink.old.wrote sink.new.wrote status
   -- Of a pair script that was read whole, where both ends are behind its events is printed.
   pub pairs : (Rose sink.before sink.now → ⊥) → command ≡ kind.Pair
@@ -189,7 +206,8 @@ pub record ProgramRan (help version nonce words : List ℕ) (command : Command)
       → (script : PoolScript) → IsPoolScript text script
       → PrintsPoolText script sink.old.wrote sink.new.wrote status
   -- Of a password and a count the secret is printed, with the first words as its salt.
-  pub secrets : (Rose sink.before sink.now → ⊥) → (asked : NewSecret) → command ≡ kind.Secret asked
+  pub secrets : (Rose sink.before sink.now → ⊥) → (asked : NewSecret)
+      → command ≡ kind.Secret asked
       → PrintsSecret asked.password asked.count words sink.old.wrote sink.new.wrote status
   -- Of a file of passwords that was read whole, the password of the first entry that matches is printed, or none.
   pub finds : (Rose sink.before sink.now → ⊥) → (asked : Asked) → command ≡ kind.Passfile asked

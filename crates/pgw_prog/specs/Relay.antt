@@ -102,6 +102,7 @@ abbrev pub PrintsRelayText : RelayScript → List ℕ → List ℕ → ℕ → T
 PrintsRelayText s before now status =
     (status ≡ 4)
     ⊎ ((to_server : List ℕ) × (to_client : List ℕ) × (run : ProxyRun)
-    × Relayed s.turns (making_for s.client s.cut) (making_for s.server s.cut) to_server to_client run
+    × Relayed s.turns (making_for s.client s.cut) (making_for s.server s.cut) to_server to_client
+    run
     × (status ≡ relay_status run.fault)
     × (now ≡ before ++ relay_text to_server to_client run))

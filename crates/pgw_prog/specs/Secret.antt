@@ -7,7 +7,8 @@ use Rattle.pgw_prog_printing.specs.Pieces.{line_end}
 
 -- the first 16 of the bytes that were drawn are the salt
 abbrev pub secret_line : List ℕ → ℕ → List ℕ → List ℕ
-secret_line password count words = stored_secret_text (secret_of password (take 16 words) count) ++ line_end
+secret_line password count words =
+    stored_secret_text (secret_of password (take 16 words) count) ++ line_end
 
 abbrev pub SaysSecret : List ℕ → ℕ → List ℕ → Printed → Type 0
 SaysSecret password count words p = Says p (secret_line password count words) 0

@@ -25,7 +25,8 @@ pub record SinkSpan : Type 1 where
   pub now : ℕ
   pub same : Type 0
 
-abbrev pub source_span : {S : Type 0} → (S → SourceTape) → (S → Option (List ℕ)) → (S → ℕ) → S → S → SourceSpan
+abbrev pub source_span : {S : Type 0} → (S → SourceTape) → (S → Option (List ℕ)) → (S → ℕ) → S → S
+    → SourceSpan
 source_span tape left faults old new =
     record {
       old = tape old;
@@ -39,7 +40,14 @@ source_span tape left faults old new =
 
 abbrev pub sink_span : {S : Type 0} → (S → SinkTape) → (S → ℕ) → S → S → SinkSpan
 sink_span tape faults old new =
-    record { old = tape old; new = tape new; before = faults old; now = faults new; same = new ≡ old }
+    record {
+      old = tape old;
+      new = tape new;
+      before = faults old;
+      now = faults new;
+      same = new ≡
+          old;
+    }
 
 -- these bytes were taken, and then the source answered its end; they are no more than a script may have
 pub record TookWhole (old new : SourceTape) (text : List ℕ) : Type 0 where
@@ -65,8 +73,10 @@ pub record TookTooMany (old new : SourceTape) : Type 0 where
 -- Why a source was not read to its end: it was too long, or it failed before its end, which its count tells, or memory ran
 -- out.
 abbrev pub StopsSource : SourceSpan → ReadFault → Type 0
-StopsSource source fault.TooLong = (source.now ≡ source.before) × TookTooMany source.old source.new
-StopsSource source fault.Source = Rose source.before source.now × (source.new.ended ≡ source.old.ended)
+StopsSource source fault.TooLong =
+    (source.now ≡ source.before) × TookTooMany source.old source.new
+StopsSource source fault.Source =
+    Rose source.before source.now × (source.new.ended ≡ source.old.ended)
 StopsSource source fault.OutOfMemory = source.now ≡ source.before
 
 -- all of the text was appended, by at most one write for each byte

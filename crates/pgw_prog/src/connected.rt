@@ -32,7 +32,8 @@ fn talk<D: Dialer>(
     nonce: &[u8; 18],
 ) -> PgWireClientResult<SessionReport>
     ensures later { D.faults dialer.old ≤ D.faults dialer.new }
-    ensures talked { IsDialOutcome (input_for asked.now nonce.now config.now) asked.now.limit address.now
+    ensures talked { IsDialOutcome (input_for asked.now nonce.now config.now) asked.now.limit
+        address.now
         (dial_span D.tape D.foretells D.offers D.faults dialer.old dialer.new) result }
 {
     let mut link = match dialer.dial(address) {

@@ -3,10 +3,10 @@
 use pgw_backend::client_error::{PgWireClientError, PgWireClientResult};
 use pgw_config_text::part::Part;
 use pgw_config_text::text::cut;
-use pgw_proxy::fault::ProxyFault;
 use pgw_prog_script::expected::{
     expected_at, expected_in_pair_at, expected_in_pool_at, expected_in_relay_at,
 };
+use pgw_proxy::fault::ProxyFault;
 use pgw_session::types::SessionReport;
 use pgw_types::memory::OutOfMemory;
 use std::alloc::{AllocError, Global};

@@ -27,7 +27,8 @@ pub fn read_whole<I: Source>(alloc: Global, input: &mut I) -> Result<Vec<u8>, Re
     ensures front { TookFront (source_span I.tape I.left I.faults input.old input.new) }
     ensures whole { IfOk result (λ text. TookWhole (I.tape input.old) (I.tape input.new)
         text.items) }
-    ensures stops { IfErr result (StopsSource (source_span I.tape I.left I.faults input.old input.new)) }
+    ensures stops { IfErr result (StopsSource
+        (source_span I.tape I.left I.faults input.old input.new)) }
 {
     let mut text = Vec::new(alloc);
     while text.len() <= SCRIPT_LIMIT {
@@ -50,7 +51,8 @@ pub fn write_whole<O: Sink>(output: &mut O, text: &[u8]) -> Result<(), SinkFault
     ensures cause { HasTapeCause (O.faults output.old) (O.faults output.new) result }
     ensures no_fault { OnOk result (O.faults output.new ≡ O.faults output.old) }
     ensures wrote { OnOk result (WroteWhole (O.tape output.old) (O.tape output.new) text.now) }
-    ensures failed { OnErr result (WroteSinkFront (O.tape output.old) (O.tape output.new) text.now) }
+    ensures failed { OnErr result (WroteSinkFront (O.tape output.old) (O.tape output.new)
+        text.now) }
 {
     let mut at = 0;
     while at < text.len() {

@@ -49,7 +49,8 @@ pub row_printed : (self : Answer) (printer next : RowPrinter) (row : List Value)
 row_printed self printer next row before after is prints = record {
   text = λ more.
       let rest = answer_text self.format more in
-      let e : after ++ (text_for next (said_rows more) ++ rest) ≡ before ++ (text_for printer (row ∷ said_rows more) ++
+      let e : after ++ (text_for next (said_rows more) ++ rest) ≡ before ++
+      (text_for printer (row ∷ said_rows more) ++
       rest) =
       sym (append_assoc after (text_for next (said_rows more)) rest)
       ∙ ap (λ (t : List ℕ). t ++ rest) (prints (said_rows more))
@@ -109,15 +110,18 @@ shut_heard self new this before after ends over shuts s = record {
 
 pub done_heard : (self new : Answer) (before after : List ℕ) → Shuts self before after new
     → HearsSaid self said.Done before after new
-done_heard self new before after s = shut_heard self new said.Done before after (λ more. refl) (λ more. refl) refl s
+done_heard self new before after s =
+    shut_heard self new said.Done before after (λ more. refl) (λ more. refl) refl s
 
 pub failed_heard : (self new : Answer) (before after : List ℕ) → Shuts self before after new
     → HearsSaid self said.Failed before after new
-failed_heard self new before after s = shut_heard self new said.Failed before after (λ more. refl) (λ more. refl) refl s
+failed_heard self new before after s =
+    shut_heard self new said.Failed before after (λ more. refl) (λ more. refl) refl s
 
 pub ready_heard : (self new : Answer) (before after : List ℕ) → Shuts self before after new
     → HearsSaid self said.Ready before after new
-ready_heard self new before after s = shut_heard self new said.Ready before after (λ more. refl) (λ more. refl) refl s
+ready_heard self new before after s =
+    shut_heard self new said.Ready before after (λ more. refl) (λ more. refl) refl s
 
 pub misplaced_heard : (self new : Answer) (before after : List ℕ) → Shuts self before after new
     → HearsSaid self said.Misplaced before after new
@@ -127,7 +131,8 @@ misplaced_heard self new before after s = shut_heard self new said.Misplaced bef
 -- a result ends where the next begins
 pub columns_heard : (self mid new : Answer) (columns : List Column) (before between after : List ℕ)
     → Shuts self before between mid
-    → HearsSaid mid (said.Columns columns) between after new → HearsSaid self (said.Columns columns) before after new
+    → HearsSaid mid (said.Columns columns) between after new
+    → HearsSaid self (said.Columns columns) before after new
 columns_heard self mid new columns before between after s h = record {
   text = λ more. h.text more ∙ shut_rest self mid before between (said.Columns columns ∷ more) s
       ∙ ap (λ (t : List ℕ). before ++ (t ++ answer_text self.format (said.Columns columns ∷ more)))

@@ -26,7 +26,8 @@ use Rattle.pgw_prog_answers.specs.Halting.{ClosesSheet, stopped, whole, part, en
 use Rattle.pgw_prog_answers.specs.Halting.{stop_in}
 
 -- the text of an answer that nothing was printed of
-text_is : (f : RowFormat) (a : Sheet) (saids : List Said) → a.answer ≡ record { format = f; printer = None; columns = 0 }
+text_is : (f : RowFormat) (a : Sheet) (saids : List Said)
+    → a.answer ≡ record { format = f; printer = None; columns = 0 }
     → a.waits ≡ [] → whole_text a saids ≡ a.wrote ++ answer_text f saids
 text_is f a saids answer waits =
     ap (λ (t : List ℕ). (a.wrote ++ t) ++ rest_text a.answer saids) waits
@@ -70,7 +71,8 @@ made f old new a b after why how answer h leaves ends written = record {
 }
 
 stopped_by : (f : RowFormat) (old new : ServerLine) (a b : Sheet) (after : List ℕ) (why : Halt) (by : Stop)
-    → a.answer ≡ record { format = f; printer = None; columns = 0 } → (h : HearsAnswers old new a b why) → ((rest : List ℕ) × (after ++ rest ≡ a.wrote ++ answer_text f (said_at a h.messages)))
+    → a.answer ≡ record { format = f; printer = None; columns = 0 } → (h : HearsAnswers old new a b why)
+    → ((rest : List ℕ) × (after ++ rest ≡ a.wrote ++ answer_text f (said_at a h.messages)))
     → WritesAnswer f old new a.wrote after (end_behind by)
 stopped_by f old new a b after why by answer h front =
     made f old new a b after why (end_behind by) answer h (leaves_stopped by old new h.rest) (ends_stopped by
@@ -87,7 +89,8 @@ while_heard : (f : RowFormat) (old new : ServerLine) (a b : Sheet) (why : Halt) 
     → a.answer ≡ record { format = f; printer = None; columns = 0 } → a.waits ≡ [] → stop_in why ≡ Some by
     → HearsAnswers old new a b why → WritesAnswer f old new a.wrote b.wrote (end_behind by)
 while_heard f old new a b (halt.Stopped it) by answer waits is h =
-    stopped_by f old new a b b.wrote (halt.Stopped it) by answer h (front_at f a (said_at a h.messages) b.wrote answer
+    stopped_by f old new a b b.wrote (halt.Stopped it) by answer h
+    (front_at f a (said_at a h.messages) b.wrote answer
     waits h.prints)
 while_heard f old new a b halt.GoesOn by answer waits is h = absurd (cc)
 while_heard f old new a b halt.Ready by answer waits is h = absurd (cc)
@@ -102,7 +105,8 @@ all_heard halt.Misplaced ms a b is p = p
 all_heard halt.Lost ms a b is p = p
 all_heard (halt.Stopped by) ms a b is p = absurd (cc)
 
-whole_is : (f : RowFormat) (a b : Sheet) (saids : List Said) → a.answer ≡ record { format = f; printer = None; columns = 0 }
+whole_is : (f : RowFormat) (a b : Sheet) (saids : List Said)
+    → a.answer ≡ record { format = f; printer = None; columns = 0 }
     → a.waits ≡ [] → PrintsHeard saids a b → whole_text b [] ≡ a.wrote ++ answer_text f saids
 whole_is f a b saids answer waits p = p.text [] ∙ ap (whole_text a) (append-nil saids)
     ∙ text_is f a saids answer waits
@@ -123,15 +127,18 @@ ready_heard : (f : RowFormat) (old new : ServerLine) (a b : Sheet) (after : List
     → a.answer ≡ record { format = f; printer = None; columns = 0 } → (h : HearsAnswers old new a b halt.Ready)
     → has_failed (said_at a h.messages) ≡ failed → after ≡ a.wrote ++ answer_text f (said_at a h.messages)
     → WritesAnswer f old new a.wrote after (end_ready failed)
-ready_heard f old new a b after true answer h failed text = made f old new a b after halt.Ready ends.Failed answer h
+ready_heard f old new a b after true answer h failed text =
+    made f old new a b after halt.Ready ends.Failed answer h
     h.leaves
     (h.halts, failed) text
-ready_heard f old new a b after false answer h failed text = made f old new a b after halt.Ready ends.Well answer h
+ready_heard f old new a b after false answer h failed text =
+    made f old new a b after halt.Ready ends.Well answer h
     h.leaves
     (h.halts, failed) text
 
 whole_heard : (f : RowFormat) (old new : ServerLine) (a b : Sheet) (after : List ℕ) (why : Halt)
-    → a.answer ≡ record { format = f; printer = None; columns = 0 } → a.waits ≡ [] → a.failed ≡ false → (why ≡ halt.GoesOn → ⊥)
+    → a.answer ≡ record { format = f; printer = None; columns = 0 } → a.waits ≡ [] → a.failed ≡ false
+    → (why ≡ halt.GoesOn → ⊥)
     → stop_in why ≡ None → HearsAnswers old new a b why → after ≡ whole_text b []
     → WritesAnswer f old new a.wrote after (end_at why b.failed)
 whole_heard f old new a b after halt.GoesOn answer waits failed over is h text = absurd (over refl)
@@ -140,7 +147,8 @@ whole_heard f old new a b after halt.Ready answer waits failed over is h text =
     let p = h.prints in
     let flag : has_failed (said_at a h.messages) ≡ b.failed = sym (p.failed
     ∙ ap (λ (x : Bool). failed_behind x (said_at a h.messages)) failed) in
-    ready_heard f old new a b after b.failed answer h flag (text ∙ whole_is f a b (said_at a h.messages) answer waits p)
+    ready_heard f old new a b after b.failed answer h flag (text
+    ∙ whole_is f a b (said_at a h.messages) answer waits p)
 whole_heard f old new a b after halt.Misplaced answer waits failed over is h text =
     made f old new a b after halt.Misplaced ends.Misplaced answer h h.leaves h.halts (text
     ∙ whole_is f a b (said_at a h.messages) answer waits h.prints)
@@ -149,7 +157,8 @@ whole_heard f old new a b after halt.Lost answer waits failed over is h text =
     ∙ whole_is f a b (said_at a h.messages) answer waits h.prints)
 
 -- an answer is its messages, and the end of its page
-pub answered : (f : RowFormat) (old new : ServerLine) (a b : Sheet) (before now : ℕ) (after : List ℕ) (why : Halt) (how :
+pub answered : (f : RowFormat) (old new : ServerLine) (a b : Sheet) (before now : ℕ) (after : List ℕ) (why : Halt)
+    (how :
     AnswerEnd) → a.answer ≡ record { format = f; printer = None; columns = 0 } → a.waits ≡ [] → a.failed ≡ false
     → (why ≡ halt.GoesOn → ⊥) → HearsAnswers old new a b why → ClosesSheet why b before now after how
     → WritesAnswer f old new a.wrote after how

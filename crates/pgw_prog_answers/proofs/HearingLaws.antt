@@ -48,9 +48,11 @@ stand_on {v} {c = c} {ns = ns} (next x m len ms r f s) t = next x m len (ms ++ n
 stand_between : {v : ProtocolVersion} (a first b second c : List ℕ) (ms ns : List Backend)
     → Stand v (a ++ first) ms b → Stand v (b ++ second) ns c → Stand v (a ++ (first ++ second)) (ms ++ ns) c
 stand_between {v} a first b second c ms ns s t =
-    subst (λ (x : List ℕ). Stand v x (ms ++ ns) c) (append_assoc a first second) (stand_on (stand_more second s) t)
+    subst (λ (x : List ℕ). Stand v x (ms ++ ns) c) (append_assoc a first second)
+    (stand_on (stand_more second s) t)
 
-came_on : (xs ys : List ℕ) (l m n : ServerLine) → LineBytesCame xs l m → LineBytesCame ys m n → LineBytesCame (xs ++ ys) l n
+came_on : (xs ys : List ℕ) (l m n : ServerLine) → LineBytesCame xs l m → LineBytesCame ys m n
+    → LineBytesCame (xs ++ ys) l n
 came_on xs ys l m n p q = record {
   came = q.came ∙ ap (λ (t : List ℕ). t ++ ys) p.came ∙ append_assoc l.came xs ys;
   sent = q.sent ∙ p.sent;
@@ -120,7 +122,8 @@ lost_on l m n c (unreadable why is) = unreadable why is
 lost_on l m n c (cut_off e awaits dry) = cut_off e awaits (dry_on e l m n c dry)
 lost_on l m n c (unusable is) = unusable (sym c.broken ∙ is)
 
-leaves_on : (why : Halt) (l m n : ServerLine) (rest : List ℕ) → Calm l m → LeavesAtHalt why m n rest → LeavesAtHalt why l n rest
+leaves_on : (why : Halt) (l m n : ServerLine) (rest : List ℕ) → Calm l m → LeavesAtHalt why m n rest
+    → LeavesAtHalt why l n rest
 leaves_on halt.GoesOn l m n rest c p = (p.0, calm_on l m n c p.1)
 leaves_on halt.Ready l m n rest c p = (p.0, calm_on l m n c p.1)
 leaves_on halt.Misplaced l m n rest c p = (p.0, calm_on l m n c p.1)
@@ -128,7 +131,8 @@ leaves_on halt.Lost l m n rest c p = (p.0, lost_on l m n c p.1)
 leaves_on (halt.Stopped why) l m n rest c p = tt
 
 -- one part behind another
-pub hearing_on : (l m n : ServerLine) (a b c : Sheet) (why : Halt) → HearsAnswers l m a b halt.GoesOn → HearsAnswers m n b c why
+pub hearing_on : (l m n : ServerLine) (a b c : Sheet) (why : Halt) → HearsAnswers l m a b halt.GoesOn
+    → HearsAnswers m n b c why
     → HearsAnswers l n a c why
 hearing_on l m n a b c why p q =
     let saids = said_behind a b p.messages q.messages p.prints in
@@ -140,14 +144,16 @@ hearing_on l m n a b c why p q =
       rest = q.rest;
       came = came_on p.bytes q.bytes l m n p.came q.came;
       stand =
-          let t : Stand m.version (p.rest ++ q.bytes) q.messages q.rest = subst (λ (x : List ℕ). Stand m.version (x
+          let t : Stand m.version (p.rest ++ q.bytes) q.messages q.rest =
+          subst (λ (x : List ℕ). Stand m.version (x
           ++ q.bytes) q.messages q.rest) (sym p.leaves.0) q.stand in
           let u : Stand l.version (p.rest ++ q.bytes) q.messages q.rest = subst (λ (v : ProtocolVersion). Stand v
           (p.rest ++ q.bytes) q.messages q.rest) p.came.version t in
           stand_between l.buffer p.bytes p.rest q.bytes q.rest p.messages q.messages p.stand u;
       leaves = leaves_on why l m n q.rest p.leaves.1 q.leaves;
       halts = subst (λ (t : List Said). HaltsAt why t) (sym saids) (halts_on why one two p.halts q.halts);
-      prints = subst (λ (t : List Said). PrintsAtHalt why t a c) (sym saids) (printed_on why one two a b c p.prints
+      prints =
+          subst (λ (t : List Said). PrintsAtHalt why t a c) (sym saids) (printed_on why one two a b c p.prints
           q.prints);
     }
 
@@ -194,7 +200,8 @@ waited old new a b p f = record {
 
 pub waited_falls : (old new : ServerLine) → LineFills old new (Ok true) → hearing_weight new < hearing_weight old
 waited_falls old new f =
-    let size : length new.buffer ≡ length old.buffer + length f.bytes = ap (λ (l : ServerLine). length l.buffer) f.line
+    let size : length new.buffer ≡ length old.buffer + length f.bytes =
+    ap (λ (l : ServerLine). length l.buffer) f.line
     ∙ length-append old.buffer f.bytes in
     omega (arith, f.some, f.left, size)
 
@@ -209,10 +216,12 @@ stays old new x is came sent version = record {
   version = ap (λ (l : ServerLine). l.version) is ∙ version;
 }
 
-awaits_still : (old new : ServerLine) → new.version ≡ old.version → new.buffer ≡ old.buffer → NeedsBytes old → NeedsBytes new
+awaits_still : (old new : ServerLine) → new.version ≡ old.version → new.buffer ≡ old.buffer → NeedsBytes old
+    → NeedsBytes new
 awaits_still old new version buffer awaits = rw (version, buffer) awaits
 
-lost_by : (old new : ServerLine) (a b : Sheet) → PrintsHeard [] a b → LineBytesCame [] old new → new.buffer ≡ old.buffer
+lost_by : (old new : ServerLine) (a b : Sheet) → PrintsHeard [] a b → LineBytesCame [] old new
+    → new.buffer ≡ old.buffer
     → IsLost old new → HearsAnswers old new a b halt.Lost
 lost_by old new a b p came buffer lost = record {
   messages = [];
@@ -226,7 +235,8 @@ lost_by old new a b p came buffer lost = record {
 }
 
 -- no more bytes come
-dry : (e : ClientError) (old new x : ServerLine) (a b : Sheet) → PrintsHeard [] a b → NeedsBytes old → new ≡ x → x.came ≡ old.came
+dry : (e : ClientError) (old new x : ServerLine) (a b : Sheet) → PrintsHeard [] a b → NeedsBytes old → new ≡ x
+    → x.came ≡ old.came
     → x.sent ≡ old.sent → x.version ≡ old.version → x.buffer ≡ old.buffer → IsDry old new e
     → HearsAnswers old new a b halt.Lost
 dry e old new x a b p awaits is came sent version buffer d =
@@ -234,9 +244,11 @@ dry e old new x a b p awaits is came sent version buffer d =
     let came = stays old new x is came sent version in
     lost_by old new a b p came same (cut_off e (awaits_still old new came.version same awaits) d)
 
-pub ran_dry : (old new : ServerLine) (a b : Sheet) → PrintsHeard [] a b → NeedsBytes old → LineFills old new (Ok false)
+pub ran_dry : (old new : ServerLine) (a b : Sheet) → PrintsHeard [] a b → NeedsBytes old
+    → LineFills old new (Ok false)
     → HearsAnswers old new a b halt.Lost
-ran_dry old new a b p awaits f = dry client.UnexpectedEOF old new (record old { ended = old.ended + 1 }) a b p awaits
+ran_dry old new a b p awaits f =
+    dry client.UnexpectedEOF old new (record old { ended = old.ended + 1 }) a b p awaits
     f refl refl refl refl (ap (λ (l : ServerLine). l.ended) f)
 
 stopped_as : (why : Stop) (old new : ServerLine) (a b : Sheet) (bytes : List ℕ) → IsFront [] a b.wrote
@@ -275,11 +287,13 @@ unfilled client.ReadLimit old new a b p awaits f =
     dry client.ReadLimit old new (record old { broken = true }) a b p awaits f.1 refl refl refl refl (ap (λ (l :
     ServerLine). l.left) f.1 ∙ f.0)
 unfilled client.Broken old new a b p awaits f =
-    lost_by old new a b p (stays old new old f.1 refl refl refl) (ap (λ (l : ServerLine). l.buffer) f.1) (unusable f.0)
+    lost_by old new a b p (stays old new old f.1 refl refl refl) (ap (λ (l : ServerLine). l.buffer) f.1)
+    (unusable f.0)
 unfilled e old new a b p awaits f = absurd f
 
 -- an error where a message was looked for
-pub untaken : (e : ClientError) (old new : ServerLine) (a b : Sheet) → PrintsHeard [] a b → LineTakes old new (Err e)
+pub untaken : (e : ClientError) (old new : ServerLine) (a b : Sheet) → PrintsHeard [] a b
+    → LineTakes old new (Err e)
     → HearsAnswers old new a b (halt_behind e)
 untaken client.OutOfMemory old new a b p t =
     stopped_as stop.Memory old new a b [] (front_of a b p) (stays old new (record old { broken = true }) t.1 refl
@@ -290,7 +304,8 @@ untaken (client.PgWireError why) old new a b p t =
     lost_by old new a b p (stays old new (record old { broken = true }) t.1 refl refl refl) buffer
     (unreadable why (rw (version, buffer) t.0))
 untaken client.Broken old new a b p t =
-    lost_by old new a b p (stays old new (record old { broken = true }) t.1 refl refl refl) (ap (λ (l : ServerLine).
+    lost_by old new a b p (stays old new (record old { broken = true }) t.1 refl refl refl)
+    (ap (λ (l : ServerLine).
     l.buffer) t.1) (unusable t.0)
 untaken e old new a b p t = absurd t.0
 
@@ -299,18 +314,21 @@ lost_falls client.OutOfMemory old new is = absurd (cc)
 lost_falls e old new is = absurd (cc)
 
 -- printing stopped while nothing was heard
-pub stopped_first : (why : Stop) (l : ServerLine) (a b : Sheet) → IsFront [] a b.wrote → HearsAnswers l l a b (halt.Stopped why)
+pub stopped_first : (why : Stop) (l : ServerLine) (a b : Sheet) → IsFront [] a b.wrote
+    → HearsAnswers l l a b (halt.Stopped why)
 stopped_first why l a b f = stopped_as why l l a b [] f (still l)
 
 -- ---- a message
 
 one_stands : (old : ServerLine) (m : Backend) (len : ℕ) → front old.version old.buffer ≡ Whole m len
     → Stand old.version (old.buffer ++ []) (m ∷ []) (drop len old.buffer)
-one_stands old m len f = subst (λ (t : List ℕ). Stand old.version t (m ∷ []) (drop len old.buffer)) (sym (append-nil
+one_stands old m len f =
+    subst (λ (t : List ℕ). Stand old.version t (m ∷ []) (drop len old.buffer)) (sym (append-nil
     old.buffer))
     (next old.buffer m len [] (drop len old.buffer) f (none (drop len old.buffer)))
 
-taken_came : (old new : ServerLine) (len : ℕ) → new ≡ record old { buffer = drop len old.buffer } → LineBytesCame [] old new
+taken_came : (old new : ServerLine) (len : ℕ) → new ≡ record old { buffer = drop len old.buffer }
+    → LineBytesCame [] old new
 taken_came old new len e = record {
   came = ap (λ (l : ServerLine). l.came) e ∙ sym (append-nil old.came);
   sent = ap (λ (l : ServerLine). l.sent) e;
@@ -333,7 +351,8 @@ one_as why old new a b m t leaves halts prints = record {
   rest = drop t.0 old.buffer;
   came = taken_came old new t.0 t.2;
   stand = one_stands old m t.0 t.1;
-  leaves = leaves (drop t.0 old.buffer) (sym (ap (λ (l : ServerLine). l.buffer) t.2)) (taken_calm old new t.0 t.2);
+  leaves =
+      leaves (drop t.0 old.buffer) (sym (ap (λ (l : ServerLine). l.buffer) t.2)) (taken_calm old new t.0 t.2);
   halts = halts;
   prints = prints;
 }
@@ -343,25 +362,30 @@ ends_one t s e = record { front = []; last = s; is = refl; goes_on = go_none; en
 
 -- a message was taken, and printing stopped before it was heard, or behind it
 stopped_at : (why : Stop) (old new : ServerLine) (a b : Sheet) (m : Backend) → LineTakes old new (Ok (Some m))
-    → (IsFront [] a b.wrote ⊎ IsFront (said_at a (m ∷ [])) a b.wrote) → HearsAnswers old new a b (halt.Stopped why)
+    → (IsFront [] a b.wrote ⊎ IsFront (said_at a (m ∷ [])) a b.wrote)
+    → HearsAnswers old new a b (halt.Stopped why)
 stopped_at why old new a b m t (inl f) = stopped_as why old new a b [] f (taken_came old new t.0 t.2)
 stopped_at why old new a b m t (inr f) = one_as (halt.Stopped why) old new a b m t (λ rest e c. tt) tt f
 
 -- what a message comes to
-pub heard_one : (heard : Result Turn Stop) (old new : ServerLine) (a b : Sheet) (m : Backend) → LineTakes old new (Ok (Some m))
+pub heard_one : (heard : Result Turn Stop) (old new : ServerLine) (a b : Sheet) (m : Backend)
+    → LineTakes old new (Ok (Some m))
     → IfOk heard (λ t. t ≡ said_turn (said_in (columns_open a.answer) m))
     → OnOk heard (PrintsHeard (said_in (columns_open a.answer) m ∷ []) a b)
     → OnErr heard (IsFront [] a b.wrote ⊎ IsFront (said_in (columns_open a.answer) m ∷ []) a b.wrote)
     → HearsAnswers old new a b (halt_of heard)
-heard_one (Ok turn.GoesOn) old new a b m t is p f = one_as halt.GoesOn old new a b m t (λ rest e c. (e, c)) (All-cons
+heard_one (Ok turn.GoesOn) old new a b m t is p f =
+    one_as halt.GoesOn old new a b m t (λ rest e c. (e, c)) (All-cons
     (λ s. said_turn s ≡ turn.GoesOn) (said_in (columns_open a.answer) m) [] (sym is) go_none) p
-heard_one (Ok turn.Ready) old new a b m t is p f = one_as halt.Ready old new a b m t (λ rest e c. (e, c)) (ends_one
+heard_one (Ok turn.Ready) old new a b m t is p f =
+    one_as halt.Ready old new a b m t (λ rest e c. (e, c)) (ends_one
     turn.Ready (said_in (columns_open a.answer) m) (sym is)) p
 heard_one (Ok turn.Misplaced) old new a b m t is p f = one_as halt.Misplaced old new a b m t (λ rest e c. (e, c))
     (ends_one turn.Misplaced (said_in (columns_open a.answer) m) (sym is)) p
 heard_one (Err why) old new a b m t is p f = stopped_at why old new a b m t f
 
-pub one_falls : (old new : ServerLine) (m : Backend) (why : Halt) → LineTakes old new (Ok (Some m)) → Falls old new why
+pub one_falls : (old new : ServerLine) (m : Backend) (why : Halt) → LineTakes old new (Ok (Some m))
+    → Falls old new why
 one_falls old new m why t is =
     let w = front_whole old.version old.buffer m t.0 t.1 in
     let left : new.left ≡ old.left = ap (λ (l : ServerLine). l.left) t.2 in

@@ -22,12 +22,15 @@ opened_on : (o : Option ℕ) (xs ys : List Said)
 opened_on o [] ys = refl
 opened_on o (x ∷ xs) ys = opened_on (open_columns o x) xs ys
 
-pub prints_on : (xs ys : List Said) (a b c : Sheet) → PrintsHeard xs a b → PrintsHeard ys b c → PrintsHeard (xs ++ ys) a c
+pub prints_on : (xs ys : List Said) (a b c : Sheet) → PrintsHeard xs a b → PrintsHeard ys b c
+    → PrintsHeard (xs ++ ys) a c
 prints_on xs ys a b c p q = record {
-  text = λ more. q.text more ∙ p.text (ys ++ more) ∙ ap (λ (t : List Said). whole_text a t) (sym (append_assoc xs ys
+  text = λ more. q.text more ∙ p.text (ys ++ more)
+      ∙ ap (λ (t : List Said). whole_text a t) (sym (append_assoc xs ys
       more));
   failed = q.failed ∙ ap (λ (f : Bool). failed_behind f ys) p.failed ∙ failed_on a.failed xs ys;
-  open_is = q.open_is ∙ ap (λ (o : Option ℕ). opened_behind o ys) p.open_is ∙ opened_on (columns_open a.answer) xs ys;
+  open_is =
+      q.open_is ∙ ap (λ (o : Option ℕ). opened_behind o ys) p.open_is ∙ opened_on (columns_open a.answer) xs ys;
 }
 
 -- what stops behind what was printed stops behind all of it

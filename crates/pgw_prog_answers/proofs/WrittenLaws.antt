@@ -6,7 +6,8 @@ use Rattle.std.proofs.Math.Seq.{take-add}
 use Rattle.pgw_link.specs.Stream.{SinkTape, Poured}
 
 -- the first bytes, and then some of the range behind them
-take_on : (text : List ℕ) (at n : ℕ) → take (at + n) text ≡ take at text ++ take n (take (length text - at) (drop at
+take_on : (text : List ℕ) (at n : ℕ)
+    → take (at + n) text ≡ take at text ++ take n (take (length text - at) (drop at
     text))
 take_on text at n =
     take-add at n text ∙ ap (λ (r : List ℕ). take at text ++ take n r) (sym (take_all (length text - at) (drop at

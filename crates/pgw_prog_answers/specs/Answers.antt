@@ -43,10 +43,11 @@ abbrev pub columns_open : Answer → Option ℕ
 columns_open a = opened_if a.printer a.columns
 
 -- whatever comes, what is printed now and then is what was to be printed of this and of that
-pub record HearsSaid (old : Answer) (this : Said) (before after : List ℕ) (new : Answer) : Type 0 where
-  pub text : (more : List Said) → after ++ rest_text new more ≡ before ++ rest_text old (this ∷
-      more)
-  pub open_is : columns_open new ≡ open_columns (columns_open old) this
+pub record HearsSaid (old : Answer) (this : Said) (before after : List ℕ) (new : Answer) : Type 0
+  where
+    pub text : (more : List Said) → after ++ rest_text new more ≡ before ++ rest_text old (this ∷
+        more)
+    pub open_is : columns_open new ≡ open_columns (columns_open old) this
 
 -- what was open is printed to its end
 pub record Shuts (old : Answer) (before after : List ℕ) (new : Answer) : Type 0 where

@@ -109,7 +109,8 @@ WrittenAt ends.Lost wrote text = wrote ≡ text
 
 -- An answer was printed: the messages that stood at the front of the bytes that were not taken and
 -- of those that came, and the text of their results.
-pub record WritesAnswer (f : RowFormat) (old new : ServerLine) (before after : List ℕ) (how : AnswerEnd)
+pub record WritesAnswer (f : RowFormat) (old new : ServerLine) (before after : List ℕ)
+    (how : AnswerEnd)
     : Type 0 where
   pub messages : List Backend
   pub bytes : List ℕ
@@ -122,7 +123,8 @@ pub record WritesAnswer (f : RowFormat) (old new : ServerLine) (before after : L
 
 -- A query was asked and its answer printed; or it could not be sent, for this cause, of which one is
 -- want of memory, and nothing was printed.
-pub data AsksAndPrints (f : RowFormat) (query : List ℕ) (old new : ServerLine) (before after : List ℕ)
+pub data AsksAndPrints (f : RowFormat) (query : List ℕ) (old new : ServerLine)
+    (before after : List ℕ)
     : AnswerEnd → Type 0 where
   unsent : (e : ClientError) → QueryNotAsked query old new e → (e ≡ client.OutOfMemory → ⊥)
       → after ≡ before → AsksAndPrints f query old new before after ends.Lost

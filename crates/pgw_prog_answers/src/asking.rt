@@ -73,7 +73,8 @@ fn lose<E: Sink>(alloc: Global, error: PgWireClientError, errors: &mut E) -> Hal
 
 // Waits for more bytes.
 fn fill<M: Messages, E: Sink>(alloc: Global, source: &mut M, errors: &mut E) -> Halt
-    ensures hears { (before after : Sheet) → PrintsHeard [] before after → NeedsBytes (M.line source.old) →
+    ensures hears { (before after : Sheet) → PrintsHeard [] before after →
+        NeedsBytes (M.line source.old) →
         HearsAnswers (M.line source.old) (M.line source.new) before after result }
     ensures falls { Falls (M.line source.old) (M.line source.new) result }
     ensures counts { (n : ℕ) → CountsHalt n n result }
@@ -93,7 +94,8 @@ fn wait_for_more<M: Messages, O: Sink, E: Sink>(
     output: &mut O,
     errors: &mut E,
 ) -> Halt
-    ensures hears { NeedsBytes (M.line source.old) → HearsAnswers (M.line source.old) (M.line source.new)
+    ensures hears { NeedsBytes (M.line source.old) →
+        HearsAnswers (M.line source.old) (M.line source.new)
         (sheet (O.tape output.old).wrote page.old) (sheet (O.tape output.new).wrote page.new)
         result }
     ensures counts { CountsHalt (O.faults output.old) (O.faults output.new) result }
@@ -114,7 +116,8 @@ fn hear_message<O: Sink, E: Sink>(
     output: &mut O,
     errors: &mut E,
 ) -> Halt
-    ensures hears { (old new : ServerLine) → LineTakes old new (Ok (Some message.now)) → HearsAnswers old new
+    ensures hears { (old new : ServerLine) → LineTakes old new (Ok (Some message.now)) →
+        HearsAnswers old new
         (sheet (O.tape output.old).wrote page.old) (sheet (O.tape output.new).wrote page.new)
         result }
     ensures counts { CountsHalt (O.faults output.old) (O.faults output.new) result }

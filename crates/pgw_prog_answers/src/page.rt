@@ -154,7 +154,8 @@ impl Page {
             ≡ said_turn (said_in (columns_open self.old.answer) message.now)) }
         ensures calm { OnOk result (O.faults output.new ≡ O.faults output.old) }
         ensures cause { IfErr result (HasStopped (O.faults output.old) (O.faults output.new)) }
-        ensures prints { OnOk result (PrintsHeard (said_in (columns_open self.old.answer) message.now ∷ [])
+        ensures prints { OnOk result (PrintsHeard
+            (said_in (columns_open self.old.answer) message.now ∷ [])
             (sheet (O.tape output.old).wrote self.old)
             (sheet (O.tape output.new).wrote self.new)) }
         ensures front { OnErr result (IsFront [] (sheet (O.tape output.old).wrote self.old)

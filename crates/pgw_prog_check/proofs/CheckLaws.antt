@@ -33,7 +33,8 @@ module _ {Y X : Type 0} (t : Telling Y X) where
   looked None before after fine l = ap (λ (c : ClientState X). c.broken) l.0 ∙ fine
   looked (Some read_only) before after fine l = answered read_only before after l.0 fine l.1 l.2
 
-  one_usable : (place : Place) (old new : Y) (c : ClientState X) → PlaceLetsIn t place old new c → c.broken ≡ false
+  one_usable : (place : Place) (old new : Y) (c : ClientState X) → PlaceLetsIn t place old new c
+      → c.broken ≡ false
   one_usable place old new c l =
       looked (wanted_of place.config.target_session_attrs) l.first c l.login.usable l.keeps.1
 
@@ -60,22 +61,24 @@ module _ {Y X : Type 0} (t : Telling Y X) where
       }
 
 -- the text of a report, by its parts
-pub tells : {X : Type 0} (notes : LoginNotes) (c : ClientState X) (config : Config) (r : CheckReport) (start text :
+pub tells : {X : Type 0} (notes : LoginNotes) (c : ClientState X) (config : Config) (r : CheckReport)
+    (start text :
     List ℕ)
     → text ≡ start ++ report_text r → start ≡ [] → config ≡ (c.known).config
     → address_of config ≡ Ok (r.server).now → r.login ≡ notes.kind → r.proved ≡ notes.proved
     → r.version ≡ (c.known).protocol_version → (r.user).now ≡ named_user config
     → (r.database).now ≡ named_database config → r.process_id ≡ (c.known).process_id
     → (r.parameters).now ≡ (c.known).parameters → TellsCheckReport notes c text
-tells notes c config r start text is none same leads login proved version user database process parameters = record {
-  report = r;
-  server = subst (λ (k : Config). address_of k ≡ Ok (r.server).now) same leads;
-  login = login;
-  proved = proved;
-  version = version;
-  user = user ∙ ap named_user same;
-  database = database ∙ ap named_database same;
-  process_id = process;
-  parameters = parameters;
-  text_is = is ∙ ap (λ (t : List ℕ). t ++ report_text r) none;
-}
+tells notes c config r start text is none same leads login proved version user database process parameters =
+    record {
+      report = r;
+      server = subst (λ (k : Config). address_of k ≡ Ok (r.server).now) same leads;
+      login = login;
+      proved = proved;
+      version = version;
+      user = user ∙ ap named_user same;
+      database = database ∙ ap named_database same;
+      process_id = process;
+      parameters = parameters;
+      text_is = is ∙ ap (λ (t : List ℕ). t ++ report_text r) none;
+    }

@@ -29,7 +29,8 @@ abbrev pub named_database : Config → List ℕ
 named_database config = unwrap_or config.dbname (named_user config)
 
 -- A text is that of a report of what a client knows and of what was noted of its login.
-pub record TellsCheckReport {X : Type 0} (notes : LoginNotes) (c : ClientState X) (text : List ℕ) : Type 0 where
+pub record TellsCheckReport {X : Type 0} (notes : LoginNotes) (c : ClientState X) (text : List ℕ)
+    : Type 0 where
   pub report : CheckReport
   pub server : address_of (c.known).config ≡ Ok (report.server).now
   pub login : report.login ≡ notes.kind

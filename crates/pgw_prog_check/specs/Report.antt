@@ -97,7 +97,8 @@ time_lines r =
 unfoldable pub check_lines : CheckReport → List (List ℕ)
 check_lines r =
     login_lines r
-    ++ (session_lines r ++ (map report_parameter (finite.entries r.parameters.now) ++ time_lines r))
+    ++ (session_lines r ++
+    (map report_parameter (finite.entries r.parameters.now) ++ time_lines r))
 
 -- a line without control characters, and its end
 abbrev pub clean_line : List ℕ → List ℕ

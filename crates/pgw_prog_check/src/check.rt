@@ -5,14 +5,14 @@ ghost use Rattle.pgw_client_places.specs.Telling.{telling};
 ghost use Rattle.pgw_prog_check.specs.Check.{IsCheckRun, PrintsText, TellsCheckReport, named_database, named_user, unchecked_status as status_lacking};
 
 use crate::report::{CheckReport, put_report};
-use pgw_prog_answers::written::write_whole;
-use pgw_config::config::Config;
 use pgw_client_calls::{ClientInfo, PgWireClient};
+use pgw_client_places::notes::{Clock, LoginNotes};
+use pgw_client_places::places::{NoSession, Place, connect_first};
+use pgw_config::config::Config;
 use pgw_link::dialer::Dialer;
 use pgw_link::link::Link;
 use pgw_link::stream::Sink;
-use pgw_client_places::notes::{Clock, LoginNotes};
-use pgw_client_places::places::{NoSession, Place, connect_first};
+use pgw_prog_answers::written::write_whole;
 use pgw_types::memory::OutOfMemory;
 use std::alloc::Global;
 use std::time::Duration;

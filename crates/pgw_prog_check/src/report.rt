@@ -5,9 +5,9 @@ ghost use Rattle.std.specs.FinMap as finite;
 ghost use Rattle.pgw_prog_check.specs.Report.{clean_line, lines_text, login_lines, report_pair, report_parameter, report_text as text_of, server_text as server_shown, server_version, session_lines, time_lines};
 
 use crate::words::{login_name, server_text, truth_word, version_word};
+use pgw_client_places::notes::LoginKind;
 use pgw_prog_output::pieces::put;
 use pgw_prog_output::shown::plain;
-use pgw_client_places::notes::LoginKind;
 use pgw_types::address::Address;
 use pgw_types::context::ProtocolVersion;
 use pgw_types::memory::OutOfMemory;
@@ -49,7 +49,8 @@ fn put_line(alloc: Global, out: &mut Vec<u8>, line: &str) -> Result<(), OutOfMem
 
 // A word and what it stands for.
 fn put_pair(alloc: Global, out: &mut Vec<u8>, word: &str, value: &str) -> Result<(), OutOfMemory>
-    ensures { OnOk result (out.new.items ≡ out.old.items ++ clean_line (report_pair word.now value.now)) }
+    ensures { OnOk result (out.new.items ≡ out.old.items
+        ++ clean_line (report_pair word.now value.now)) }
 {
     let line = format!(in alloc; "{word} {value}")?;
     put_line(alloc, out, line.as_str())

@@ -1,7 +1,7 @@
 //! A whole report.
 
-use pgw_prog_check::report::{CheckReport, put_report};
 use pgw_client_places::notes::LoginKind;
+use pgw_prog_check::report::{CheckReport, put_report};
 use pgw_types::address::{Address, HostAddr};
 use pgw_types::context::ProtocolVersion;
 use pgw_types::memory::OutOfMemory;

@@ -2,13 +2,13 @@
 ghost use Rattle.std.specs.Prelude.{All, IfOk};
 ghost use Rattle.pgw_link.specs.MemoryLinks.{IsUnused};
 
-use pgw_prog_check::check::run_check;
+use pgw_client_places::notes::{LoginNotes, NoClock};
+use pgw_client_places::places::Place;
 use pgw_config::config::Config;
 use pgw_link::memory::MemoryLink;
 use pgw_link::memory_dialer::MemoryDialer;
 use pgw_link::memory_stream::MemorySink;
-use pgw_client_places::notes::{LoginNotes, NoClock};
-use pgw_client_places::places::Place;
+use pgw_prog_check::check::run_check;
 use pgw_types::listed::Listed;
 use pgw_types::memory::OutOfMemory;
 use pgw_types::octets::Octets;

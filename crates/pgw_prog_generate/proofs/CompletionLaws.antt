@@ -43,14 +43,21 @@ startup_stands nonce = (
   },
 )
 
-rows_taken : (count : ℕ) (rows : List DataRow) → AreTaken kind.Simple true (map backend.DataRow rows ++ complete count ∷ []) false
+rows_taken : (count : ℕ) (rows : List DataRow)
+    → AreTaken kind.Simple true (map backend.DataRow rows ++ complete count ∷ []) false
 rows_taken count [] = (false, refl, refl)
 rows_taken count (row ∷ rows) = (true, refl, rows_taken count rows)
 
-answer_events : (count : ℕ) (rows : List DataRow) → map Got (answer count rows) ≡ map Got (description ∷ (map backend.DataRow rows ++ complete count ∷ [])) ++ Got stream_ready ∷ []
+answer_events : (count : ℕ) (rows : List DataRow)
+    → map Got (answer count rows) ≡ map Got (description ∷ (map backend.DataRow rows ++ complete count ∷ [])) ++
+    Got stream_ready ∷ []
 answer_events count rows =
     ap (λ (l : List Event). Got description ∷ l)
-    (map-append Got (map backend.DataRow rows) (stream_end count) ∙ sym (append_assoc (map Got (map backend.DataRow rows)) (Got (complete count) ∷ []) (Got stream_ready ∷ [])) ∙ ap (λ (l : List Event). l ++ Got stream_ready ∷ []) (sym (map-append Got (map backend.DataRow rows) (complete count ∷ []))))
+    (map-append Got (map backend.DataRow rows) (stream_end count)
+    ∙ sym (append_assoc (map Got (map backend.DataRow rows)) (Got (complete count) ∷ [])
+    (Got stream_ready ∷ []))
+    ∙ ap (λ (l : List Event). l ++ Got stream_ready ∷ [])
+    (sym (map-append Got (map backend.DataRow rows) (complete count ∷ []))))
 
 query_stands : (count : ℕ) (rows : List DataRow) → IsRequestSegment gen_query (query_events count rows)
 query_stands count rows = (
@@ -95,44 +102,68 @@ none_sent : (ms : List Backend) → sents (map Got ms) ≡ []
 none_sent [] = refl
 none_sent (m ∷ ms) = none_sent ms
 
-joined_are : (nonce : List ℕ) (count start : ℕ) → all_events (gen_segments nonce count start) ≡ startup_events nonce ++ query_events count (gen_rows count start)
-joined_are nonce count start = ap (λ (l : List Event). startup_events nonce ++ l) (append-nil (query_events count (gen_rows count start)))
+joined_are : (nonce : List ℕ) (count start : ℕ)
+    → all_events (gen_segments nonce count start) ≡ startup_events nonce ++ query_events count
+    (gen_rows count start)
+joined_are nonce count start =
+    ap (λ (l : List Event). startup_events nonce ++ l) (append-nil (query_events count (gen_rows count start)))
 
 may_send : (nonce : List ℕ) (count start : ℕ) → CanLogIn (sents (all_events (gen_segments nonce count start)))
 may_send nonce count start =
-    subst (λ (es : List Event). CanLogIn (sents es)) (sym (joined_are nonce count start)) (tt, (tt, subst CanLogIn (sym (none_sent (answer count (gen_rows count start)))) tt))
+    subst (λ (es : List Event). CanLogIn (sents es)) (sym (joined_are nonce count start))
+    (tt, (tt, subst CanLogIn (sym (none_sent (answer count (gen_rows count start)))) tt))
 
-spelled : (nonce : List ℕ) (count start : ℕ) (bytes : List ℕ) → count < 2 ^ 64 → IsStream count start bytes → SpellsGot (first_standing (gen_input nonce).config) (all_events (gen_segments nonce count start)) bytes
+spelled : (nonce : List ℕ) (count start : ℕ) (bytes : List ℕ) → count < 2 ^ 64 → IsStream count start bytes
+    → SpellsGot (first_standing (gen_input nonce).config) (all_events (gen_segments nonce count start)) bytes
 spelled nonce count start bytes small is =
-    subst (λ (es : List Event). SpellsGot (first_standing (gen_input nonce).config) es bytes) (sym (joined_are nonce count start))
-    (all_spelled (first_standing (gen_input nonce).config) (messages count start) bytes (stream_plain count start small) is)
+    subst (λ (es : List Event). SpellsGot (first_standing (gen_input nonce).config) es bytes)
+    (sym (joined_are nonce count start))
+    (all_spelled (first_standing (gen_input nonce).config) (messages count start) bytes
+    (stream_plain count start small) is)
 
-pub stream_completes : (nonce : List ℕ) (count start : ℕ) (bytes : List ℕ) → count < 2 ^ 64 → IsStream count start bytes → Completes (gen_input nonce) (length bytes) bytes (gen_segments nonce count start)
+pub stream_completes : (nonce : List ℕ) (count start : ℕ) (bytes : List ℕ) → count < 2 ^ 64
+    → IsStream count start bytes
+    → Completes (gen_input nonce) (length bytes) bytes (gen_segments nonce count start)
 stream_completes nonce count start bytes small is =
-    subst (λ (left : List ℕ). Completes (gen_input nonce) (length bytes) left (gen_segments nonce count start)) (append-nil bytes)
-    (spelled_completes (gen_input nonce) (gen_segments nonce count start) bytes [] (valid nonce) (transcript nonce count start) (may_send nonce count start) (spelled nonce count start bytes small is))
+    subst (λ (left : List ℕ). Completes (gen_input nonce) (length bytes) left (gen_segments nonce count start))
+    (append-nil bytes)
+    (spelled_completes (gen_input nonce) (gen_segments nonce count start) bytes [] (valid nonce)
+    (transcript nonce count start) (may_send nonce count start) (spelled nonce count start bytes small is))
 
 -- ---- the rows
 
 abbrev opened : List FieldInfo → List DataRow → Tally
 opened fields rows = record no_tally { opened = Some (record { fields = fields; rows = rows }) }
 
-rows_tallied : (fields : List FieldInfo) (before rows : List DataRow) (es : List Event) → fold tally_at (opened fields before) (map Got (map backend.DataRow rows) ++ es) ≡ fold tally_at (opened fields (before ++ rows)) es
-rows_tallied fields before [] es = ap (λ (l : List DataRow). fold tally_at (opened fields l) es) (sym (append-nil before))
-rows_tallied fields before (row ∷ rows) es = rows_tallied fields (before ++ row ∷ []) rows es ∙ ap (λ (l : List DataRow). fold tally_at (opened fields l) es) (append_assoc before (row ∷ []) rows)
+rows_tallied : (fields : List FieldInfo) (before rows : List DataRow) (es : List Event)
+    → fold tally_at (opened fields before) (map Got (map backend.DataRow rows) ++ es) ≡ fold tally_at
+    (opened fields (before ++ rows)) es
+rows_tallied fields before [] es =
+    ap (λ (l : List DataRow). fold tally_at (opened fields l) es) (sym (append-nil before))
+rows_tallied fields before (row ∷ rows) es =
+    rows_tallied fields (before ++ row ∷ []) rows es
+    ∙ ap (λ (l : List DataRow). fold tally_at (opened fields l) es) (append_assoc before (row ∷ []) rows)
 
 abbrev fields : List FieldInfo
 fields = map field_info_of (column ∷ [])
 
-query_tallied : (count : ℕ) (rows : List DataRow) → tally_of (query_events count rows) ≡ fold tally_at (opened fields rows) (Got (complete count) ∷ Got stream_ready ∷ [])
+query_tallied : (count : ℕ) (rows : List DataRow)
+    → tally_of (query_events count rows) ≡ fold tally_at (opened fields rows)
+    (Got (complete count) ∷ Got stream_ready ∷ [])
 unfolding tally_of
 query_tallied count rows =
-    ap (λ (l : List Event). fold tally_at (opened fields []) l) (map-append Got (map backend.DataRow rows) (stream_end count)) ∙ rows_tallied fields [] rows (map Got (stream_end count))
+    ap (λ (l : List Event). fold tally_at (opened fields []) l)
+    (map-append Got (map backend.DataRow rows) (stream_end count))
+    ∙ rows_tallied fields [] rows (map Got (stream_end count))
 
-reported : (count : ℕ) (rows : List DataRow) → flat_map answer_rows (answers_of (gen_query ∷ []) (query_events count rows ∷ [])) ≡ rows
-reported count rows = ap (λ t. flat_map answer_rows (answer_by gen_query t ∷ [])) (query_tallied count rows) ∙ (append-nil (rows ++ []) ∙ append-nil rows)
+reported : (count : ℕ) (rows : List DataRow)
+    → flat_map answer_rows (answers_of (gen_query ∷ []) (query_events count rows ∷ [])) ≡ rows
+reported count rows =
+    ap (λ t. flat_map answer_rows (answer_by gen_query t ∷ [])) (query_tallied count rows)
+    ∙ (append-nil (rows ++ []) ∙ append-nil rows)
 
-pub stream_reported : (nonce : List ℕ) (count start : ℕ) → report_rows (report_of (gen_input nonce) (gen_segments nonce count start)) ≡ gen_rows count start
+pub stream_reported : (nonce : List ℕ) (count start : ℕ)
+    → report_rows (report_of (gen_input nonce) (gen_segments nonce count start)) ≡ gen_rows count start
 unfolding report_of
 stream_reported nonce count start = reported count (gen_rows count start)
 
@@ -142,4 +173,5 @@ numbered (suc n) x = ap suc (numbered n (next_number x))
 
 pub rows_counted : (count start : ℕ) → length (gen_rows count start) ≡ count
 unfolding numbers
-rows_counted count start = length-map (numbers_behind count (start % 2147483648)) row_of ∙ numbered count (start % 2147483648)
+rows_counted count start =
+    length-map (numbers_behind count (start % 2147483648)) row_of ∙ numbered count (start % 2147483648)

@@ -39,7 +39,17 @@ gen_rows count start = map row_of (numbers count start)
 
 -- the column n, of the type int4
 abbrev pub column : FieldDescription
-column = record { name = codes "n"; table_id = pos 0; column_id = pos 0; type_id = 23; type_size = pos 4; type_modifier = negsuc 0; format_code = pos 0 }
+column =
+    record {
+      name = codes "n";
+      table_id = pos 0;
+      column_id = pos 0;
+      type_id = 23;
+      type_size = pos
+          4;
+      type_modifier = negsuc 0;
+      format_code = pos 0;
+    }
 
 abbrev pub stream_ready : Backend
 stream_ready = backend.ReadyForQuery (record { status = status.Idle })
@@ -62,7 +72,8 @@ abbrev pub stream_end : ℕ → List Backend
 stream_end count = complete count ∷ stream_ready ∷ []
 
 abbrev pub messages : ℕ → ℕ → List Backend
-messages count start = before_rows ++ (map backend.DataRow (gen_rows count start) ++ stream_end count)
+messages count start =
+    before_rows ++ (map backend.DataRow (gen_rows count start) ++ stream_end count)
 
 -- ---- the session
 
@@ -78,7 +89,8 @@ query_events count rows = map Sent (sends_of gen_query) ++ map Got (answer count
 
 -- the client logs in, and makes its one query
 abbrev pub gen_segments : List ℕ → ℕ → ℕ → List (List Event)
-gen_segments nonce count start = startup_events nonce ∷ query_events count (gen_rows count start) ∷ []
+gen_segments nonce count start =
+    startup_events nonce ∷ query_events count (gen_rows count start) ∷ []
 
 -- ---- the bytes
 
@@ -96,4 +108,5 @@ IsStream count start bytes = stream_encodings (messages count start) ≡ Ok byte
 
 -- the encodings of these messages were appended
 abbrev pub PutsEncodings : List Backend → List ℕ → List ℕ → Type 0
-PutsEncodings ms old new = (bytes : List ℕ) × (stream_encodings ms ≡ Ok bytes) × (new ≡ old ++ bytes)
+PutsEncodings ms old new =
+    (bytes : List ℕ) × (stream_encodings ms ≡ Ok bytes) × (new ≡ old ++ bytes)

@@ -45,7 +45,8 @@ payloads rows = flat_map (λ (row : DataRow). row.payload) rows
 
 -- how many there are, and SHA-256 of their payloads, one behind the other
 abbrev pub summary_of : SessionReport → GenSummary
-summary_of report = record { rows = length (report_rows report); digest = sha256 (payloads (report_rows report)) }
+summary_of report =
+    record { rows = length (report_rows report); digest = sha256 (payloads (report_rows report)) }
 
 -- ---- rows that are added one after the other
 

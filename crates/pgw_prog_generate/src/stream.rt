@@ -73,7 +73,8 @@ fn put_row(out: &mut BytesMut, number: u32) -> Result<(), OutOfMemory>
 // Appends so many rows, whose numbers follow this one.
 fn put_rows(out: &mut BytesMut, count: u32, before: u32) -> Result<(), OutOfMemory>
     requires { before < 2 ^ 31 }
-    ensures { OnOk result (PutsEncodings (map backend.DataRow (map row_of (numbers_behind count before)))
+    ensures { OnOk result (PutsEncodings
+        (map backend.DataRow (map row_of (numbers_behind count before)))
         out.old.items out.new.items) }
 {
     let mut number = before;

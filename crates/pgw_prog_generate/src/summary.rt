@@ -54,7 +54,8 @@ impl Sum {
     }
 
     fn add_responses(&mut self, responses: &[Response]) -> Result<(), TooManyRows>
-        ensures adds { OnOk result (AddsRowsToSum (flat_map response_rows responses.now) self.old self.new) }
+        ensures adds { OnOk result (AddsRowsToSum (flat_map response_rows responses.now) self.old
+            self.new) }
         ensures too_many { OnErr result (AreTooMany (flat_map response_rows responses.now)
             self.old) }
     {
@@ -67,7 +68,8 @@ impl Sum {
     }
 
     fn add_answers(&mut self, answers: &[Answer]) -> Result<(), TooManyRows>
-        ensures adds { OnOk result (AddsRowsToSum (flat_map answer_rows answers.now) self.old self.new) }
+        ensures adds { OnOk result (AddsRowsToSum (flat_map answer_rows answers.now) self.old
+            self.new) }
         ensures too_many { OnErr result (AreTooMany (flat_map answer_rows answers.now) self.old) }
     {
         for answer in answers {

@@ -21,7 +21,8 @@ written_is field = rw (escaped_is field) refl
 rest_is : (row : List (Option (List ℕ))) → csv_rest row ≡ fields_text default_writer (map csv_field_text row)
 unfolding fields_text
 rest_is [] = refl
-rest_is (value ∷ row) = rw (written_is (csv_field_text value)) (ap (λ (t : List ℕ). 44 ∷ (field_text default_writer
+rest_is (value ∷ row) =
+    rw (written_is (csv_field_text value)) (ap (λ (t : List ℕ). 44 ∷ (field_text default_writer
     (csv_field_text value) ++ t)) (rest_is row))
 
 fields_are : (row : List (Option (List ℕ))) → csv_fields row ≡ row_body default_writer (map csv_field_text row)
@@ -56,4 +57,5 @@ pub line_joined : (row : List (Option (List ℕ))) (old one two new : List ℕ) 
 line_joined row old one two new p q r = r ∙ ap (λ (t : List ℕ). t ++ (10 ∷ [])) (q
     ∙ ap (λ (t : List ℕ). t ++ blank_text row) p)
     ∙ append_assoc (old ++ csv_fields row) (blank_text row) (10 ∷ [])
-    ∙ append_assoc old (csv_fields row) (blank_text row ++ (10 ∷ [])) ∙ ap (λ (t : List ℕ). old ++ t) (line_is row)
+    ∙ append_assoc old (csv_fields row) (blank_text row ++ (10 ∷ []))
+    ∙ ap (λ (t : List ℕ). old ++ t) (line_is row)

@@ -20,7 +20,8 @@ whole_sample columns rows few = rw (append-nil rows) (rw (take_all 100 rows (ome
 
 -- more rows behind a table's first
 more_rows : (laid : List TableColumn) (columns : List Column) (sample rows : List (List Value))
-    → aligned_text laid columns (sample ++ rows) ≡ aligned_text laid columns sample ++ flat_map (table_line laid) rows
+    → aligned_text laid columns (sample ++ rows) ≡ aligned_text laid columns sample ++ flat_map (table_line laid)
+    rows
 unfolding aligned_text
 more_rows laid columns sample rows = rw (flat_map-append (table_line laid) sample rows) (sym (append_assoc
     (table_line laid (names_of columns) ++ rule_line laid) (flat_map (table_line laid) sample) (flat_map
@@ -45,7 +46,8 @@ enough columns held row rows few many =
     ∙ ap (λ (t : List (List Value)). aligned_text (laid_out columns (take 100 t)) columns t) whole
 
 -- the same behind a text
-pub enough_behind : (old new : List ℕ) (columns : List Column) (held sample : List (List Value)) (row : List Value)
+pub enough_behind : (old new : List ℕ) (columns : List Column) (held sample : List (List Value))
+    (row : List Value)
     (laid : List TableColumn)
     → length held < 100 → sample ≡ held ++ row ∷ [] → 100 ≤ length sample → laid ≡ laid_out columns sample
     → new ≡ old ++ aligned_text (laid_out columns sample) columns sample

@@ -40,7 +40,8 @@ table_end columns row at p = at_an_end table_rest [] no_values (λ (ys : List Va
   no_values (column ∷ columns) = refl
 
 pub widened_end : (columns : List TableColumn) (row : List Value) (at : ℕ)
-    → min (length columns) (length row) ≤ at → take at columns ++ widened (drop at columns) (drop at row) ≡ columns
+    → min (length columns) (length row) ≤ at
+    → take at columns ++ widened (drop at columns) (drop at row) ≡ columns
 widened_end columns row at p = ap (λ (t : List TableColumn). take at columns
     ++ t) (rest (drop at columns) (drop at row) (at_an_end (λ (xs : List TableColumn)
     (ys : List Value). one_empty xs ys) true left right columns row at p)) ∙ take-append-drop at columns where

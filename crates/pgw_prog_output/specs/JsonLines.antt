@@ -61,6 +61,7 @@ json_line columns row = json_object columns row ++ (10 ∷ [])
 -- ---- for private clauses
 
 -- what stood before stays, and these tokens are added
-abbrev pub AddsJsonTokens : {E : Type 0} → Written → Written → Result (Unit {0}) E → List Token → Type 0
+abbrev pub AddsJsonTokens : {E : Type 0} → Written → Written → Result (Unit {0}) E → List Token
+    → Type 0
 AddsJsonTokens old new result tokens = OnOk result ((new.before ≡ old.before) × (new.tokens
     ≡ old.tokens ++ tokens))

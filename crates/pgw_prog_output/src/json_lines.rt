@@ -14,7 +14,8 @@ use std::alloc::{AllocError, Global};
 use std::mem::replace;
 
 fn put_truth(writer: &mut Writer, text: &str) -> Result<(), AllocError>
-    ensures { AddsJsonTokens writer.old writer.new result (json_tokens (json_text kind.Truth text.now)) }
+    ensures { AddsJsonTokens writer.old writer.new result
+        (json_tokens (json_text kind.Truth text.now)) }
 {
     if text == "t" {
         writer.boolean(true)
@@ -26,7 +27,8 @@ fn put_truth(writer: &mut Writer, text: &str) -> Result<(), AllocError>
 }
 
 fn put_number(writer: &mut Writer, text: &str) -> Result<(), AllocError>
-    ensures { AddsJsonTokens writer.old writer.new result (json_tokens (json_text kind.Number text.now)) }
+    ensures { AddsJsonTokens writer.old writer.new result
+        (json_tokens (json_text kind.Number text.now)) }
 {
     if is_number(text) {
         writer.number(text)
@@ -88,7 +90,8 @@ fn put_object(
     columns: &[Column],
     row: &[Option<Octets>],
 ) -> Result<(), AllocError>
-    ensures { AddsJsonTokens writer.old writer.new result (json_tokens (json_row columns.now row.now)) }
+    ensures { AddsJsonTokens writer.old writer.new result
+        (json_tokens (json_row columns.now row.now)) }
 {
     writer.begin_object()?;
     put_members(alloc, writer, columns, row)?;

@@ -23,7 +23,11 @@ use Rattle.pgw_prog_pool.specs.Lines.{wants_memory}
 use Rattle.pgw_prog_pool.specs.Outcome.{PoolComesTo, ComesBy, RunsPool}
 
 -- all calls were made, or those before one that names a lease which is not out
-pub comes : (first there last : PoolStanding) (calls : List PoolCall) (lines : ℕ) (text : Vec ℕ Global) (stop : Option ℕ) (o : PoolOutcome) → MadeUpTo first calls there [] text.items stop → AllBack there last → MatchOption stop (o ≡ outcome.Told text) (λ at. o ≡ outcome.NotOut (lines + at + 1)) → PoolComesTo first calls lines o
+pub comes : (first there last : PoolStanding) (calls : List PoolCall) (lines : ℕ) (text : Vec ℕ Global)
+    (stop : Option ℕ) (o : PoolOutcome)
+    → MadeUpTo first calls there [] text.items stop → AllBack there last
+    → MatchOption stop (o ≡ outcome.Told text) (λ at. o ≡ outcome.NotOut (lines + at + 1))
+    → PoolComesTo first calls lines o
 comes first there last calls lines text None o (all, made, put) back is =
     rw is (there, last, subst (λ t. Calls first calls t there) (sym put) made, back)
 comes first there last calls lines text (Some at) o (lt, (all, made, put), names) back is =
@@ -40,17 +44,30 @@ comes first there last calls lines text (Some at) o (lt, (all, made, put), names
     }
 
 -- the connection text was read
-pub configured : (s : PoolScript) (config : Config) (r : Result PoolOutcome OutOfMemory) → HasOutcome s.config (Ok config) → ((other : Result Config ConfigError) → HasOutcome s.config other → IsConfigAnswer (Ok config) other)
+pub configured : (s : PoolScript) (config : Config) (r : Result PoolOutcome OutOfMemory)
+    → HasOutcome s.config (Ok config)
+    → ((other : Result Config ConfigError) → HasOutcome s.config other → IsConfigAnswer (Ok config) other)
     → IfOk r (ComesBy s (Ok config)) → IfOk r (RunsPool s)
 configured s config (Ok o) has only comes = record { outcome = Ok config; has = has; only = only; comes = comes }
 configured s config (Err e) has only comes = tt
 
 -- it was refused
-pub refused : (s : PoolScript) (why : ConfigError) (e : ClientError) (r : Result PoolOutcome OutOfMemory) → e ≡ of_config why → IsParsed s.config (Err why) → ((other : Result Config ConfigError) → HasOutcome s.config other → IsConfigAnswer (Err why) other)
+pub refused : (s : PoolScript) (why : ConfigError) (e : ClientError) (r : Result PoolOutcome OutOfMemory)
+    → e ≡ of_config why → IsParsed s.config (Err why)
+    → ((other : Result Config ConfigError) → HasOutcome s.config other → IsConfigAnswer (Err why) other)
     → OnOk r (wants_memory e ≡ false) → IfOk r (λ o. o ≡ outcome.Refused e) → IfOk r (RunsPool s)
 refused s why e (Ok o) same parsed only memory says =
     let other : why ≢ config_error.OutOfMemory = λ short.
     let told : true ≡ false = rw (same, short) at memory in
     cc in
-    record { outcome = Err why; has = parsed other; only = λ outcome has. only outcome has other; comes = (other, says ∙ ap outcome.Refused same) }
+    record {
+      outcome = Err why;
+      has = parsed other;
+      only = λ outcome has. only outcome has other;
+      comes = (
+        other,
+        says
+            ∙ ap outcome.Refused same,
+      );
+    }
 refused s why e (Err none) same parsed only memory says = tt

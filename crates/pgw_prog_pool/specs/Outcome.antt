@@ -20,16 +20,17 @@ use Rattle.pgw_prog_pool.specs.Standing.{PoolStanding, standing_in_pool, Calls, 
 -- ---- the calls
 
 -- the first calls were made, and the next one names a lease that is not out; its line has this number
-pub record StopsAtPoolCall (first : PoolStanding) (calls : List PoolCall) (line n : ℕ) : Type 0 where
-  pub done : List PoolCall
-  pub next : PoolCall
-  pub behind : List PoolCall
-  pub cut : calls ≡ done ++ next ∷ behind
-  pub text : List ℕ
-  pub there : PoolStanding
-  pub made : Calls first done text there
-  pub names : NamesNone next there.out
-  pub number : n ≡ line + length done + 1
+pub record StopsAtPoolCall (first : PoolStanding) (calls : List PoolCall) (line n : ℕ) : Type 0
+  where
+    pub done : List PoolCall
+    pub next : PoolCall
+    pub behind : List PoolCall
+    pub cut : calls ≡ done ++ next ∷ behind
+    pub text : List ℕ
+    pub there : PoolStanding
+    pub made : Calls first done text there
+    pub names : NamesNone next there.out
+    pub number : n ≡ line + length done + 1
 
 -- all calls were made, and the leases that were out then were given back; or there is such a line
 abbrev pub PoolComesTo : PoolStanding → List PoolCall → (line : ℕ) → PoolOutcome → Type 0
@@ -56,7 +57,8 @@ StartsPool config limit nonces servers idle lefts =
     (after : Dials) × ConnectForetold config limit (new_dialer servers) nonces after lefts idle
 
 -- none was, for this reason
-abbrev pub Unstarted : Config → (limit : ℕ) → (nonces servers : List (List ℕ)) → ClientError → Type 0
+abbrev pub Unstarted : Config → (limit : ℕ) → (nonces servers : List (List ℕ)) → ClientError
+    → Type 0
 Unstarted config limit nonces servers e =
     (after : Dials) × NotStarted (Unit {0}) config limit nonces (new_dialer servers) after e
 

@@ -38,8 +38,10 @@ pub record PoolStanding : Type 0 where
   pub lefts : List (Option (List ℕ))
   pub out : List ScriptLease
 
-abbrev pub standing_in_pool : ℕ → List View → List (Option (List ℕ)) → List ScriptLease → PoolStanding
-standing_in_pool lent idle lefts out = record { lent = lent; idle = idle; lefts = lefts; out = out }
+abbrev pub standing_in_pool : ℕ → List View → List (Option (List ℕ)) → List ScriptLease
+    → PoolStanding
+standing_in_pool lent idle lefts out =
+    record { lent = lent; idle = idle; lefts = lefts; out = out }
 
 -- ---- a request in a lease
 
@@ -68,21 +70,27 @@ pub data TellsPoolLines (q : Request) : ScriptLease → ScriptLease → List ℕ
 -- one call, and what is printed of it
 pub data PrintsPoolCall : PoolStanding → PoolCall → List ℕ → PoolStanding → Type 0 where
   lends : (lent now number : ℕ) (idle rest : List View) (v : View) (left : Option (List ℕ))
-      (lefts : List (Option (List ℕ))) (out : List ScriptLease) → Lends idle lent rest now number v →
+      (lefts : List (Option (List ℕ))) (out : List ScriptLease)
+      → Lends idle lent rest now number v →
       PrintsPoolCall (standing_in_pool lent idle (left ∷ lefts) out) call.Lend (lease_line number)
       (standing_in_pool now rest lefts (out ++ lease_place number v left 0 ∷ []))
-  lends_none : (lent : ℕ) (idle : List View) (lefts : List (Option (List ℕ))) (out : List ScriptLease)
+  lends_none : (lent : ℕ) (idle : List View) (lefts : List (Option (List ℕ)))
+      (out : List ScriptLease)
       (e : LendError) → LendsNone idle lent e →
-      PrintsPoolCall (standing_in_pool lent idle lefts out) call.Lend (none_line e) (standing_in_pool lent idle lefts out)
-  runs : (lent : ℕ) (idle : List View) (lefts : List (Option (List ℕ))) (before behind : List ScriptLease)
+      PrintsPoolCall (standing_in_pool lent idle lefts out) call.Lend (none_line e)
+      (standing_in_pool lent idle lefts out)
+  runs : (lent : ℕ) (idle : List View) (lefts : List (Option (List ℕ)))
+      (before behind : List ScriptLease)
       (old new : ScriptLease) (q : Request) (line : List ℕ) → TellsPoolLines q old new line →
-      PrintsPoolCall (standing_in_pool lent idle lefts (before ++ old ∷ behind)) (call.Run old.number q) line
+      PrintsPoolCall (standing_in_pool lent idle lefts (before ++ old ∷ behind))
+      (call.Run old.number q) line
       (standing_in_pool lent idle lefts (before ++ new ∷ behind))
   gives_back : (lent : ℕ) (idle now : List View) (lefts left_now : List (Option (List ℕ)))
       (before behind : List ScriptLease) (old : ScriptLease) (result : Returned) →
       GivesForetold old.left old.view idle now lefts left_now result →
       was_wanting result ≡ false →
-      PrintsPoolCall (standing_in_pool lent idle lefts (before ++ old ∷ behind)) (call.Back old.number)
+      PrintsPoolCall (standing_in_pool lent idle lefts (before ++ old ∷ behind))
+      (call.Back old.number)
       (returned_line result) (standing_in_pool lent now left_now (before ++ behind))
 
 -- a list of calls, and all that is printed of them

@@ -19,7 +19,8 @@ seat_place s =
     lease_place (lease_number s.lease) (lease_view memory_tape faults_of s.lease)
     (left_of to_come s.lease) s.answers
 
-abbrev pub pool_standing : {L : Link.Ghosts MemoryLink} → Pool MemoryLink L → List Seat → PoolStanding
+abbrev pub pool_standing : {L : Link.Ghosts MemoryLink} → Pool MemoryLink L → List Seat
+    → PoolStanding
 pool_standing pool out =
     standing_in_pool (lent_by pool) (idle_in memory_tape faults_of pool) (lefts_in to_come pool)
     (map seat_place out)
@@ -35,19 +36,22 @@ PrintsRun q before after old new =
     (line : List ℕ) × TellsPoolLines q before after line × (new ≡ old ++ line)
 
 -- a call was made, and this was printed of it; or it names no lease that is out, and nothing was done
-abbrev pub PrintsCall : (known : Bool) (s : PoolStanding) → PoolCall → (t : PoolStanding) (old new : List ℕ) →
+abbrev pub PrintsCall : (known : Bool) (s : PoolStanding) → PoolCall
+    → (t : PoolStanding) (old new : List ℕ) →
     Type 0
 PrintsCall true s c t old new = (line : List ℕ) × PrintsPoolCall s c line t × (new ≡ old ++ line)
 PrintsCall false s c t old new = NamesNone c s.out × (t ≡ s) × (new ≡ old)
 
 -- these calls were made, and this was printed of them
-abbrev pub Printed : (first : PoolStanding) → List PoolCall → (there : PoolStanding) → (old new : List ℕ) →
+abbrev pub Printed : (first : PoolStanding) → List PoolCall → (there : PoolStanding)
+    → (old new : List ℕ) →
     Type 0
 Printed first calls there old new =
     (text : List ℕ) × Calls first calls text there × (new ≡ old ++ text)
 
 -- all of them were; or those before a place, whose call names a lease that is not out
-abbrev pub MadeUpTo : (first : PoolStanding) → List PoolCall → (there : PoolStanding) → (old new : List ℕ) →
+abbrev pub MadeUpTo : (first : PoolStanding) → List PoolCall → (there : PoolStanding)
+    → (old new : List ℕ) →
     Option ℕ → Type 0
 MadeUpTo first calls there old new None = Printed first calls there old new
 MadeUpTo first calls there old new (Some at) =

@@ -5,5 +5,6 @@ use Rattle.std.proofs.lemmas.Grind.{flat_map-append}
 use Rattle.pgw_prog_printing.specs.Pieces.{quoted_byte}
 
 -- one text behind another is quoted byte by byte
-pub quoted_behind : (one other : List ℕ) → flat_map quoted_byte (one ++ other) ≡ flat_map quoted_byte one ++ flat_map quoted_byte other
+pub quoted_behind : (one other : List ℕ)
+    → flat_map quoted_byte (one ++ other) ≡ flat_map quoted_byte one ++ flat_map quoted_byte other
 quoted_behind one other = flat_map-append quoted_byte one other

@@ -46,17 +46,22 @@ format_number format.Binary = 1
 
 -- field "NAME" OID FORMAT
 unfoldable pub field_line : FieldInfo → List ℕ
-field_line f = codes "field " ++ quoted f.name ++ codes " " ++ decimal (type_number f.datatype) ++ codes " " ++ decimal (format_number f.format) ++ line_end
+field_line f =
+    codes "field " ++ quoted f.name ++ codes " " ++ decimal (type_number f.datatype) ++ codes " "
+    ++ decimal (format_number f.format) ++ line_end
 
 -- row COUNT HEX
 unfoldable pub row_line : DataRow → List ℕ
-row_line r = codes "row " ++ signed_decimal r.field_count ++ codes " " ++ in_hex r.payload ++ line_end
+row_line r =
+    codes "row " ++ signed_decimal r.field_count ++ codes " " ++ in_hex r.payload ++ line_end
 
 -- empty; done "TAG"; or rows "TAG" with a line for each column and each row
 unfoldable pub response_lines : Response → List ℕ
 response_lines response.EmptyQuery = codes "empty\n"
 response_lines (response.Execution tag) = codes "done " ++ quoted (printed_tag tag) ++ line_end
-response_lines (response.Query tag fields rows) = codes "rows " ++ quoted (printed_tag tag) ++ line_end ++ flat_map field_line fields ++ flat_map row_line rows
+response_lines (response.Query tag fields rows) =
+    codes "rows " ++ quoted (printed_tag tag) ++ line_end ++ flat_map field_line fields ++
+    flat_map row_line rows
 
 -- item CODE "TEXT"
 unfoldable pub item_line : ℕ × List ℕ → List ℕ
@@ -85,11 +90,15 @@ executed_lines (executed.Suspended rows) = rows_lines (codes " suspended ") rows
 
 -- what an answer is, with a line for each response, column, row or field of an error
 unfoldable pub told_lines : Answer → List ℕ
-told_lines (answer.Responses responses) = codes " responses " ++ decimal (length responses) ++ line_end ++ flat_map response_lines responses
-told_lines (answer.Prepared p) = codes " prepared " ++ name_text p.name ++ codes " " ++ oids_text p.param_types ++ line_end
+told_lines (answer.Responses responses) =
+    codes " responses " ++ decimal (length responses) ++ line_end ++ flat_map response_lines
+    responses
+told_lines (answer.Prepared p) =
+    codes " prepared " ++ name_text p.name ++ codes " " ++ oids_text p.param_types ++ line_end
 told_lines answer.Bound = codes " bound\n"
 told_lines (answer.Executed result) = executed_lines result
-told_lines (answer.Described d) = codes " described " ++ oids_text d.param_types ++ line_end ++ flat_map field_line d.fields
+told_lines (answer.Described d) =
+    codes " described " ++ oids_text d.param_types ++ line_end ++ flat_map field_line d.fields
 told_lines answer.Closed = codes " closed\n"
 told_lines (answer.Rows rows) = rows_lines (codes " rows ") rows
 told_lines (answer.Remote e) = codes " remote\n" ++ flat_map item_line e.fields

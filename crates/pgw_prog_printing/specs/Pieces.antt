@@ -10,7 +10,9 @@ in_hex (b ∷ bs) = encode_lower (b ∷ bs)
 
 -- a byte of a quoted text: a quote and a backslash are escaped, and an ASCII control character is \x and two hex digits
 unfoldable pub quoted_byte : ℕ → List ℕ
-quoted_byte b = if b == 34 || b == 92 then 92 ∷ b ∷ [] else (if nat_lt b 32 || b == 127 then codes "\\x" ++ in_hex (b ∷ []) else b ∷ [])
+quoted_byte b =
+    if b == 34 || b == 92 then 92 ∷ b ∷ [] else
+    (if nat_lt b 32 || b == 127 then codes "\\x" ++ in_hex (b ∷ []) else b ∷ [])
 
 unfoldable pub quoted : List ℕ → List ℕ
 quoted text = 34 ∷ [] ++ flat_map quoted_byte text ++ 34 ∷ []

@@ -48,7 +48,8 @@ status_line status.Error = codes "status E\n"
 unfoldable pub report_lines : SessionReport → List ℕ
 report_lines r =
     version_line r.version ++ process_line r.process_id ++ key_line r.secret_key
-    ++ flat_map parameter_line (map.entries r.parameters) ++ status_line r.status ++ numbered 1 r.answers
+    ++ flat_map parameter_line (map.entries r.parameters) ++ status_line r.status ++ numbered 1
+    r.answers
 
 -- error NAME
 unfoldable pub error_line : PgWireClientError → List ℕ

@@ -15,7 +15,9 @@ module _ {Y X : Type 0} (t : Telling Y X) where
   pub held : (f : RowFormat) (places : List Place) (queries : List (List ℕ)) (c last : ClientState X) (how :
       AnswerEnd) (old mid new : Y) (wrote printed : List ℕ) (before now : ℕ)
       → TriesAll t places old mid (Ok c) → DialsInTurn places (t.dials old) (t.dials mid)
-      → AskedAll f queries (line_of_client t.tape t.faults c) (line_of_client t.tape t.faults last) wrote printed how → CountsEnd before now how
+      → AskedAll f queries (line_of_client t.tape t.faults c) (line_of_client t.tape t.faults last) wrote printed
+      how
+      → CountsEnd before now how
       → IsClosed t last mid new
       → RanQuery t f places queries old new wrote printed before now (query_status how)
   held f places queries c last how old mid new wrote printed before now tries dials asked counts closed = record {

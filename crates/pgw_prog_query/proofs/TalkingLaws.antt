@@ -36,7 +36,8 @@ module _ {X : Type 0} (tape : X → Tape) (faults : X → ℕ) where
       → (new.known).protocol_version ≡ (old.known).protocol_version
   version_is old new known = ap (λ (c : Client). c.protocol_version) known
 
-  same_line : (old new : ClientState X) → new ≡ old → line_of_client tape faults new ≡ line_of_client tape faults old
+  same_line : (old new : ClientState X) → new ≡ old
+      → line_of_client tape faults new ≡ line_of_client tape faults old
   same_line old new same = ap (λ (c : ClientState X). line_of_client tape faults c) same
 
   -- ---- asking
@@ -46,7 +47,8 @@ module _ {X : Type 0} (tape : X → Tape) (faults : X → ℕ) where
   same_bytes (Err e) = refl
 
   -- a call that sends leaves the line but for what it sends, the faults, and whether the client can be used
-  sent_line : {T : Type 0} (old new : ClientState X) (sent : List ℕ) (broken : Bool) (result : Result T ClientError)
+  sent_line : {T : Type 0} (old new : ClientState X) (sent : List ℕ) (broken : Bool)
+      (result : Result T ClientError)
       → Leaves own_in (rest_in tape) (faults_in faults) (sight_in tape) old new result → new.known ≡ old.known
       → (tape new.link).wrote ≡ sent → new.broken ≡ broken
       → line_of_client tape faults new ≡ record (line_of_client tape faults old) {
@@ -56,7 +58,8 @@ module _ {X : Type 0} (tape : X → Tape) (faults : X → ℕ) where
       }
   sent_line old new sent broken result l known wrote usable =
       line_is new (record (line_of_client tape faults old) { sent = sent; faults = faults new.link; broken = broken })
-      (ap (λ (k : KeptRest). k.took) l.rest) (ap (λ (k : CallFrame). k.buffer) l.own) wrote (version_is old new known)
+      (ap (λ (k : KeptRest). k.took) l.rest) (ap (λ (k : CallFrame). k.buffer) l.own) wrote
+      (version_is old new known)
       (ap (λ (k : CallFrame). k.limit - k.read) l.own) (ap (λ (k : KeptRest). length k.ended) l.rest) refl usable
 
   asked : {T : Type 0} (query : List ℕ) (old new : ClientState X) (result : Result T ClientError)
@@ -91,7 +94,8 @@ module _ {X : Type 0} (tape : X → Tape) (faults : X → ℕ) where
   none_sent old new result same known l = sent_line old new (tape old.link).wrote old.broken result l known (ap
       (λ (x : Sight). x.wrote) same) (ap (λ (x : Sight). x.broken) same)
 
-  not_asked : (query : List ℕ) (old new : ClientState X) (e : ClientError) (result : Result (Unit {0}) ClientError)
+  not_asked : (query : List ℕ) (old new : ClientState X) (e : ClientError)
+      (result : Result (Unit {0}) ClientError)
       → result ≡ Err e → NotSent (simple_query_bytes query) (sight_in tape old) (sight_in tape new) e
       → new.known ≡ old.known
       → Leaves own_in (rest_in tape) (faults_in faults) (sight_in tape) old new result
@@ -123,7 +127,8 @@ module _ {X : Type 0} (tape : X → Tape) (faults : X → ℕ) where
     front = [];
     behind = query_bytes_or_none (simple_query_bytes query);
     cut = refl;
-    line = ap (λ (w : List ℕ). record (line_of_client tape faults c) { sent = w }) (sym (append-nil (tape c.link).wrote));
+    line = ap (λ (w : List ℕ). record (line_of_client tape faults c) { sent = w })
+        (sym (append-nil (tape c.link).wrote));
   }
 
   -- ---- taking a message
@@ -131,14 +136,17 @@ module _ {X : Type 0} (tape : X → Tape) (faults : X → ℕ) where
   polled_line : (old new : ClientState X) (buffer : List ℕ) (broken : Bool) → new.link ≡ old.link
       → new.known ≡ old.known → new.limit ≡ old.limit → new.read ≡ old.read → new.buffer ≡ buffer
       → new.broken ≡ broken
-      → line_of_client tape faults new ≡ record (line_of_client tape faults old) { buffer = buffer; broken = broken }
+      → line_of_client tape faults new ≡ record (line_of_client tape faults old)
+      { buffer = buffer; broken = broken }
   polled_line old new buffer broken link known limit read buffered usable =
       line_is new (record (line_of_client tape faults old) { buffer = buffer; broken = broken })
-      (ap (λ (x : X). (tape x).took) link) buffered (ap (λ (x : X). (tape x).wrote) link) (version_is old new known)
+      (ap (λ (x : X). (tape x).took) link) buffered (ap (λ (x : X). (tape x).wrote) link)
+      (version_is old new known)
       (ap (λ (k : ℕ). k - new.read) limit ∙ ap (λ (k : ℕ). old.limit - k) read)
       (ap (λ (x : X). length (tape x).ended) link) (ap faults link) usable
 
-  unread_as : (e : ClientError) (l : ServerLine) → ((e ≡ client.OutOfMemory → ⊥) → (why : PgWireError) × (front l.version
+  unread_as : (e : ClientError) (l : ServerLine)
+      → ((e ≡ client.OutOfMemory → ⊥) → (why : PgWireError) × (front l.version
       l.buffer ≡ Bad why) × (e ≡ client.PgWireError why)) → IsUnreadCause l e
   unread_as client.OutOfMemory l u = tt
   unread_as (client.PgWireError why) l u =
@@ -250,7 +258,8 @@ module _ {X : Type 0} (tape : X → Tape) (faults : X → ℕ) where
   read_on old new (Err e) fine known within usable broken r = absurd r
 
   unread : (old new : ClientState X) (result : Result Bool ClientError) → old.broken ≡ true
-      → result ≡ Err client.Broken → new ≡ old → LineFills (line_of_client tape faults old) (line_of_client tape faults new) result
+      → result ≡ Err client.Broken → new ≡ old
+      → LineFills (line_of_client tape faults old) (line_of_client tape faults new) result
   unread old new result broken is same = rw is (broken, same_line old new same)
 
   pub filled : (foretells : Type 0) (left : X → Option (List ℕ)) (old new : ClientState X) (result : Result Bool

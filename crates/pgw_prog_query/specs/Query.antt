@@ -29,12 +29,14 @@ status_without why.Memory = 4
 -- The queries were asked in turn of a client, over the bytes that its link and its buffer had, and
 -- what was printed is the text of the answers that came over it; and then the client that this left
 -- was closed.
-pub record HoldsQuerySession {Y X : Type 0} (t : Telling Y X) (f : RowFormat) (queries : List (List ℕ))
+pub record HoldsQuerySession {Y X : Type 0} (t : Telling Y X) (f : RowFormat)
+    (queries : List (List ℕ))
     (first : ClientState X) (mid new : Y) (wrote printed : List ℕ) (before now status : ℕ)
     : Type 0 where
   pub last : ClientState X
   pub how : AnswerEnd
-  pub asked : AskedAll f queries (line_of_client t.tape t.faults first) (line_of_client t.tape t.faults last)
+  pub asked : AskedAll f queries (line_of_client t.tape t.faults first)
+      (line_of_client t.tape t.faults last)
       wrote printed how
   pub closed : IsClosed t last mid new
   pub status_is : status ≡ query_status how

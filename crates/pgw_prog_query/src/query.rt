@@ -5,12 +5,12 @@ ghost use Rattle.pgw_client_places.specs.Places.{IsClosed};
 ghost use Rattle.pgw_client_places.specs.Telling.{telling};
 
 use crate::talking::Talking;
-use pgw_prog_answers::asking::{AnswerEnd, ask_all};
-use pgw_link::dialer::Dialer;
-use pgw_link::stream::Sink;
-use pgw_prog_output::printer::RowFormat;
 use pgw_client_places::notes::{LoginNotes, NoClock};
 use pgw_client_places::places::{NoSession, Place, connect_first};
+use pgw_link::dialer::Dialer;
+use pgw_link::stream::Sink;
+use pgw_prog_answers::asking::{AnswerEnd, ask_all};
+use pgw_prog_output::printer::RowFormat;
 use pgw_types::text::Text;
 use std::alloc::Global;
 

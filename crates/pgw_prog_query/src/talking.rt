@@ -1,12 +1,12 @@
 //! A client, as what queries are asked of.
 ghost use Rattle.std.specs.Prelude.{◌≡◌};
 
-use pgw_prog_answers::messages::Messages;
 use pgw_backend::backend::PgWireBackendMessage;
 use pgw_backend::client_error::{PgWireClientError, PgWireClientResult};
 use pgw_client_calls::{Outgoing, PgWireClient, PgWireFrontendMessage, ReadyState};
 use pgw_link::dialer::Dialer;
 use pgw_link::link::Link;
+use pgw_prog_answers::messages::Messages;
 use pgw_query::simplequery::Query;
 use pgw_types::text::Text;
 use std::alloc::Global;

@@ -2,12 +2,12 @@
 ghost use Rattle.std.specs.Prelude.{All, IfOk};
 ghost use Rattle.pgw_link.specs.MemoryLinks.{IsUnused};
 
+use pgw_client_places::places::Place;
 use pgw_config::config::Config;
 use pgw_link::memory::MemoryLink;
 use pgw_link::memory_dialer::MemoryDialer;
 use pgw_link::memory_stream::MemorySink;
 use pgw_prog_output::printer::RowFormat;
-use pgw_client_places::places::Place;
 use pgw_prog_query::query::run_query;
 use pgw_types::listed::Listed;
 use pgw_types::memory::OutOfMemory;

@@ -9,10 +9,12 @@ use Rattle.pgw_prog_script.specs.RequestLine.{make_line}
 use Rattle.pgw_prog_script.specs.RelayScript.{relay_follows, relay_form}
 
 -- they may not stand here, whatever they say
-pub no_client : (p : RelayPlace) (s : RelayScript) (o : Option (List ℕ)) → relay_follows p place.Client ≡ false → step relay_form p s (make_line line.Client o) ≡ None
+pub no_client : (p : RelayPlace) (s : RelayScript) (o : Option (List ℕ)) → relay_follows p place.Client ≡ false
+    → step relay_form p s (make_line line.Client o) ≡ None
 no_client p s None barred = refl
 no_client p s (Some bytes) barred = rw barred refl
 
-pub no_server : (p : RelayPlace) (s : RelayScript) (o : Option (List ℕ)) → relay_follows p place.Server ≡ false → step relay_form p s (make_line line.Server o) ≡ None
+pub no_server : (p : RelayPlace) (s : RelayScript) (o : Option (List ℕ)) → relay_follows p place.Server ≡ false
+    → step relay_form p s (make_line line.Server o) ≡ None
 no_server p s None barred = refl
 no_server p s (Some bytes) barred = rw barred refl

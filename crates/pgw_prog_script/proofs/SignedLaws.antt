@@ -13,7 +13,8 @@ use Rattle.pgw_config.proofs.DigitLaws.{chosen, digits_are, are_digits}
 use Rattle.pgw_prog_script.specs.RequestLine.{signed_in_line}
 
 -- by a width that holds the numbers that reach less far than this
-parsed_by : {E : Type 0} (w : Width) (bits : ℕ) (text : List ℕ) (r : Result ℤ E) → ((z : ℤ) → SFits w z → reach z < 2 ^ (bits - 1)) → ((z : ℤ) → reach z < 2 ^ (bits - 1) → SFits w z)
+parsed_by : {E : Type 0} (w : Width) (bits : ℕ) (text : List ℕ) (r : Result ℤ E)
+    → ((z : ℤ) → SFits w z → reach z < 2 ^ (bits - 1)) → ((z : ℤ) → reach z < 2 ^ (bits - 1) → SFits w z)
     → ParsesSigned w 10 text r → result_ok r ≡ signed_in_line bits text
 unfolding signed_in_line
 parsed_by w bits text (Ok n) reach_of fits_of h =
@@ -51,8 +52,10 @@ fits_32 : (z : ℤ) → reach z < 2 ^ 31 → SFits w32 z
 fits_32 (pos n) h = record { sfits = h }
 fits_32 (negsuc n) h = record { sfits = h }
 
-pub parsed_16 : {E : Type 0} (text : List ℕ) (r : Result ℤ E) → ParsesSigned w16 10 text r → result_ok r ≡ signed_in_line 16 text
+pub parsed_16 : {E : Type 0} (text : List ℕ) (r : Result ℤ E) → ParsesSigned w16 10 text r
+    → result_ok r ≡ signed_in_line 16 text
 parsed_16 text r h = parsed_by w16 16 text r reach_16 fits_16 h
 
-pub parsed_32 : {E : Type 0} (text : List ℕ) (r : Result ℤ E) → ParsesSigned w32 10 text r → result_ok r ≡ signed_in_line 32 text
+pub parsed_32 : {E : Type 0} (text : List ℕ) (r : Result ℤ E) → ParsesSigned w32 10 text r
+    → result_ok r ≡ signed_in_line 32 text
 parsed_32 text r h = parsed_by w32 32 text r reach_32 fits_32 h

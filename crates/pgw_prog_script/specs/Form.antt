@@ -29,9 +29,11 @@ pub record Form (Line Place Script : Type 0) : Type 0 where
 abbrev pub step : {L P S : Type 0} → Form L P S → P → S → Option L → Option (P × S)
 step form p s None = None
 step form p s (Some l) =
-    if form.may_follow p (form.place_of l) then Some (form.place_of l, form.with_line s l) else None
+    if form.may_follow p (form.place_of l) then Some (form.place_of l, form.with_line s l) else
+    None
 
-abbrev pub then_script_line : {P S : Type 0} → Option (P × S) → (P → S → Result S ℕ) → ℕ → Result S ℕ
+abbrev pub then_script_line : {P S : Type 0} → Option (P × S) → (P → S → Result S ℕ) → ℕ
+    → Result S ℕ
 then_script_line None rest n = Err n
 then_script_line (Some next) rest n = rest next.0 next.1
 
@@ -40,7 +42,8 @@ then_script_line (Some next) rest n = rest next.0 next.1
 abbrev pub read_lines : {L P S : Type 0} → Form L P S → P → S → ℕ → List (List ℕ) → Result S ℕ
 read_lines form p s n [] = if form.may_end p then Ok s else Err (n + 1)
 read_lines form p s n (l ∷ ls) =
-    then_script_line (step form p s (form.line_of l)) (λ q t. read_lines form q t (n + 1) ls) (n + 1)
+    then_script_line (step form p s (form.line_of l)) (λ q t. read_lines form q t (n + 1) ls)
+    (n + 1)
 
 unfoldable pub read_script : {L P S : Type 0} → Form L P S → List ℕ → Result S ℕ
 read_script form text = read_lines form form.start form.first 0 (lines_of text)

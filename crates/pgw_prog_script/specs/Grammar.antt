@@ -49,7 +49,8 @@ pub record IsFaultIn {L P S : Type 0} (form : Form L P S) (text : List ℕ) (n :
 -- what is read of a text is what the grammar says of it, and nothing else is
 abbrev pub ScriptsAreRead : {L P S : Type 0} → Form L P S → Type 0
 ScriptsAreRead {S = S} form =
-    (text : List ℕ) (script : S) → (read_script form text ≡ Ok script) ↔ IsScriptIn form text script
+    (text : List ℕ) (script : S)
+    → (read_script form text ≡ Ok script) ↔ IsScriptIn form text script
 
 abbrev pub FaultsAreRead : {L P S : Type 0} → Form L P S → Type 0
 FaultsAreRead form =

@@ -52,8 +52,10 @@ bytes_in value = result_ok (decode_of (filter (λ b. not (b == 32)) value))
 -- fail read N, fail write N, server HEX, or a request
 unfoldable pub later_line_of : List ℕ → Option Line
 later_line_of bytes =
-    behind_or (behind_word (codes "fail read ") bytes) (λ v. known line.FailRead (script_number v))
-    (behind_or (behind_word (codes "fail write ") bytes) (λ v. known line.FailWrite (script_number v))
+    behind_or (behind_word (codes "fail read ") bytes)
+    (λ v. known line.FailRead (script_number v))
+    (behind_or (behind_word (codes "fail write ") bytes)
+    (λ v. known line.FailWrite (script_number v))
     (behind_or (behind_word (codes "server ") bytes) (λ v. known line.Server (bytes_in v))
     (known line.Request (request_in bytes))))
 

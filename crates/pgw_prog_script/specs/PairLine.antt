@@ -25,15 +25,19 @@ u32_in least value = from_least least (script_number value)
 -- to-server N, to-client N
 unfoldable pub event_in : List ℕ → Option Event
 event_in bytes =
-    behind_or (behind_word (codes "to-server ") bytes) (λ v. make_line event.ToServer (u32_in 0 v))
-    (behind_or (behind_word (codes "to-client ") bytes) (λ v. make_line event.ToClient (u32_in 0 v))
+    behind_or (behind_word (codes "to-server ") bytes)
+    (λ v. make_line event.ToServer (u32_in 0 v))
+    (behind_or (behind_word (codes "to-client ") bytes)
+    (λ v. make_line event.ToClient (u32_in 0 v))
     None)
 
 -- client-hash HEX, server-hash HEX, or an event
 unfoldable pub behind_words : List ℕ → Option PairLine
 behind_words bytes =
-    behind_or (behind_word (codes "client-hash ") bytes) (λ v. make_line line.ClientHash (hex_in v))
-    (behind_or (behind_word (codes "server-hash ") bytes) (λ v. make_line line.ServerHash (hex_in v))
+    behind_or (behind_word (codes "client-hash ") bytes)
+    (λ v. make_line line.ClientHash (hex_in v))
+    (behind_or (behind_word (codes "server-hash ") bytes)
+    (λ v. make_line line.ServerHash (hex_in v))
     (make_line line.Event (event_in bytes)))
 
 -- salt HEX, count N, client HEX, server HEX, words HEX, or a later line

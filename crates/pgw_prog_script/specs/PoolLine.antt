@@ -16,7 +16,8 @@ run_by (Some lease) (Some sql) = Some (call.Run lease (request.Simple sql))
 run_by _ _ = None
 
 unfoldable pub run_in : List ℕ → Option PoolCall
-run_in text = then_value (next_value text) (λ lease sql. run_by (script_number lease) (text_in sql))
+run_in text =
+    then_value (next_value text) (λ lease sql. run_by (script_number lease) (text_in sql))
 
 -- lend, run LEASE SQL, or back LEASE
 unfoldable pub call_in : List ℕ → Option PoolCall

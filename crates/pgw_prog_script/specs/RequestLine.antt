@@ -49,7 +49,8 @@ word_in bytes = word_by (behind_mark 32 bytes) bytes
 
 -- or a hyphen for none
 unfoldable pub name_in : List ℕ → Option (Option (List ℕ))
-name_in bytes = if pointwise nat_eq bytes (codes "-") then Some None else make_line Some (word_in bytes)
+name_in bytes =
+    if pointwise nat_eq bytes (codes "-") then Some None else make_line Some (word_in bytes)
 
 -- a whole number of so many bits: a plus, a minus or none, and decimal digits
 unfoldable pub signed_in_line : ℕ → List ℕ → Option ℤ
@@ -127,7 +128,8 @@ unfoldable pub bind_in : List ℕ → Option Request
 bind_in text =
     then_value (next_value text) (λ portal rest. then_value (next_value rest) (λ statement more.
     then_value (next_value more) (λ parameters formats.
-    bind_by (name_in portal) (name_in statement) (parameters_in parameters) (formats_in formats))))
+    bind_by (name_in portal) (name_in statement) (parameters_in parameters)
+    (formats_in formats))))
 
 -- PORTAL ROWS
 abbrev pub execute_by : Option (Option (List ℕ)) → Option ℤ → Option Request
@@ -176,6 +178,7 @@ extended_in line =
 unfoldable pub request_in : List ℕ → Option Request
 request_in line =
     behind_or (behind_word (codes "simple ") line) (λ sql. make_line request.Simple (text_in sql))
-    (behind_or (behind_word (codes "describe ") line) (λ v. make_line request.Describe (target_in v))
+    (behind_or (behind_word (codes "describe ") line)
+    (λ v. make_line request.Describe (target_in v))
     (behind_or (behind_word (codes "close ") line) (λ v. make_line request.Close (target_in v))
     (extended_in line)))

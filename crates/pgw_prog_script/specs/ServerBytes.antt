@@ -5,7 +5,8 @@ use Rattle.pgw_prog_script.specs.Line.{bytes_in}
 
 -- the bytes of the text were added, or it is none of digits
 abbrev pub AddsScriptBytes : Bool → List ℕ → List ℕ → List ℕ → Type 0
-AddsScriptBytes true text old new = (bytes : List ℕ) × (bytes_in text ≡ Some bytes) × (new ≡ old ++ bytes)
+AddsScriptBytes true text old new =
+    (bytes : List ℕ) × (bytes_in text ≡ Some bytes) × (new ≡ old ++ bytes)
 AddsScriptBytes false text old new = bytes_in text ≡ None
 
 -- what a digit is worth, and 256 for none

@@ -1,12 +1,12 @@
 //! Sessions of any size over links of their own.
 
 use pgw_backend::client_error::{PgWireClientError, PgWireClientResult};
-use pgw_prog_generate::stream::stream;
-use pgw_prog_generate::summary::GenSummary;
 use pgw_link::link::Link;
 use pgw_link::memory::MemoryLink;
 use pgw_link::stream_link::StreamLink;
 use pgw_prog::gen_session::gen_session;
+use pgw_prog_generate::stream::stream;
+use pgw_prog_generate::summary::GenSummary;
 use pgw_types::listed::Listed;
 use pgw_types::octets::Octets;
 use std::alloc::Global;

@@ -25,7 +25,8 @@ timed_none : (o : Options) (rest : List (List ℕ)) (s : Option ℕ) → with_ti
 timed_none o rest None e = refl
 timed_none o rest (Some n) e = not_some _ (sym e)
 
-taken_on : (o : Options) (word : List ℕ) (rest : List (List ℕ)) (f : Flag) (p : WordParts) → with_flag o f rest ≡ Some p
+taken_on : (o : Options) (word : List ℕ) (rest : List (List ℕ)) (f : Flag) (p : WordParts)
+    → with_flag o f rest ≡ Some p
     → options_by_flag o word rest f (λ next n. read_as next n rest) ≡ parted p.0 p.1
 unfolding read_as
 taken_on o word rest (flag.Format f) p e = ap (λ (q : WordParts). parted q.0 q.1) (some_is _ p e)

@@ -44,7 +44,8 @@ with_timeout options rest (Some seconds) = Some (record options { timeout = Some
 abbrev pub with_flag : Options → Flag → List (List ℕ) → Option WordParts
 with_flag options (flag.Format f) rest = Some (record options { format = Some f }, rest)
 with_flag options flag.Passfile [] = None
-with_flag options flag.Passfile (path ∷ rest) = Some (record options { passfile = Some path }, rest)
+with_flag options flag.Passfile (path ∷ rest) =
+    Some (record options { passfile = Some path }, rest)
 with_flag options flag.Timeout [] = None
 with_flag options flag.Timeout (number ∷ rest) = with_timeout options rest (seconds_in number)
 with_flag options flag.Unknown rest = None
@@ -70,7 +71,8 @@ is_no_option flag.Unknown = false
 -- the options so far go on with what stands behind, which the last argument reads
 abbrev pub options_by_flag : Options → List ℕ → List (List ℕ) → Flag → (AwaitedWord → Options
     → Option WordParts) → Option WordParts
-options_by_flag options word rest (flag.Format f) more = more any (record options { format = Some f })
+options_by_flag options word rest (flag.Format f) more =
+    more any (record options { format = Some f })
 options_by_flag options word rest flag.Passfile more = more path options
 options_by_flag options word rest flag.Timeout more = more number options
 options_by_flag options word rest flag.Unknown more = None

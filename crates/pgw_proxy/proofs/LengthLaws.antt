@@ -21,15 +21,22 @@ use Rattle.pgw_proxy.specs.Context.{past_requests}
 use Rattle.pgw_proxy.specs.Fronts.{RelayFinding, client_asks_none, front_past_encryption, client_side_front}
 
 typed_short : {Body : List ℕ → Type 0} (byte limit : ℕ) (g : List ℕ) → limit ≤ 2147483647
-    → (head : List ℕ) × (body : List ℕ) × (g ≡ byte ∷ (head ++ body)) × SpellsNat w32 (length body + 4) head × (length body + 4 ≤ limit) × Body body → length g < 2 ^ 32
-typed_short byte limit g le (head, body, is, size, within, of) = omega (arith, le, ap length is, length-append head body, size.0, within)
+    → (head : List ℕ) × (body : List ℕ) × (g ≡ byte ∷ (head ++ body)) × SpellsNat w32 (length body + 4) head
+    × (length body + 4 ≤ limit) × Body body
+    → length g < 2 ^ 32
+typed_short byte limit g le (head, body, is, size, within, of) =
+    omega (arith, le, ap length is, length-append head body, size.0, within)
 
 untyped_short : {Body : List ℕ → Type 0} (limit : ℕ) (g : List ℕ) → limit ≤ 2147483647
-    → (head : List ℕ) × (body : List ℕ) × (g ≡ head ++ body) × SpellsNat w32 (length body + 4) head × (length body + 4 ≤ limit) × Body body → length g < 2 ^ 32
-untyped_short limit g le (head, body, is, size, within, of) = omega (arith, le, ap length is, length-append head body, size.0, within)
+    → (head : List ℕ) × (body : List ℕ) × (g ≡ head ++ body) × SpellsNat w32 (length body + 4) head
+    × (length body + 4 ≤ limit) × Body body
+    → length g < 2 ^ 32
+untyped_short limit g le (head, body, is, size, within, of) =
+    omega (arith, le, ap length is, length-append head body, size.0, within)
 
 coded_short : (code : ℕ) (g : List ℕ) → SpellsCoded code g → length g < 2 ^ 32
-coded_short code g (head, tail, is, four, size) = omega (arith, ap length is, length-append head tail, four, size.0)
+coded_short code g (head, tail, is, four, size) =
+    omega (arith, ap length is, length-append head tail, four, size.0)
 
 -- ---- a client's
 
@@ -60,17 +67,21 @@ none_is (frontend.SslNegotiation negotiation.None) is = refl
 none_is m is = absurd cc
 
 -- that no encryption is asked for has no bytes
-none_spelled : (v : ProtocolVersion) (m : Frontend) (g : List ℕ) → client_asks_none m ≡ true → SpellsFrontend v m g → g ≡ []
+none_spelled : (v : ProtocolVersion) (m : Frontend) (g : List ℕ) → client_asks_none m ≡ true
+    → SpellsFrontend v m g → g ≡ []
 unfolding SpellsFrontend
 none_spelled v m g is s = subst (λ (n : Frontend). SpellsFrontend v n g) (none_is m is) s
 
-first_spelled : (ctx : DecodeContext) (bytes rest : List ℕ) (m : Frontend) (r : RelayFinding Frontend) → frontend_front ctx bytes ≡ r → front_past_encryption ctx r ≡ Ok (Some (m, rest)) → (g : List ℕ) × (bytes ≡ g ++ rest) × (length g < 2 ^ 32)
+first_spelled : (ctx : DecodeContext) (bytes rest : List ℕ) (m : Frontend) (r : RelayFinding Frontend)
+    → frontend_front ctx bytes ≡ r → front_past_encryption ctx r ≡ Ok (Some (m, rest))
+    → (g : List ℕ) × (bytes ≡ g ++ rest) × (length g < 2 ^ 32)
 first_spelled ctx bytes rest m (Err e) is found = absurd cc
 first_spelled ctx bytes rest m (Ok None) is found = absurd cc
 first_spelled ctx bytes rest m (Ok (Some x)) is found = elim (either (client_asks_none x.0)) [
   | inl none ↦
       let f = frontend_found ctx bytes x.0 x.1 is in
-      let same : bytes ≡ x.1 = f.1 ∙ ap (λ (g : List ℕ). g ++ x.1) (none_spelled ctx.protocol_version x.0 f.0 none f.2) in
+      let same : bytes ≡ x.1 =
+      f.1 ∙ ap (λ (g : List ℕ). g ++ x.1) (none_spelled ctx.protocol_version x.0 f.0 none f.2) in
       let next = frontend_found (past_requests ctx) x.1 m rest (rw none at found) in
       (next.0, same ∙ next.1, frontend_short ctx.protocol_version m next.0 next.2)
   | inr asks ↦
@@ -79,13 +90,17 @@ first_spelled ctx bytes rest m (Ok (Some x)) is found = elim (either (client_ask
       (f.0, f.1, frontend_short ctx.protocol_version m f.0 f.2)
 ]
 
-short_by : (ctx : DecodeContext) (bytes rest : List ℕ) (m : Frontend) (b : Bool) → cond b (front_past_encryption ctx (frontend_front ctx bytes)) (frontend_front ctx bytes) ≡ Ok (Some (m, rest)) → (g : List ℕ) × (bytes ≡ g ++ rest) × (length g < 2 ^ 32)
+short_by : (ctx : DecodeContext) (bytes rest : List ℕ) (m : Frontend) (b : Bool)
+    → cond b (front_past_encryption ctx (frontend_front ctx bytes)) (frontend_front ctx bytes) ≡ Ok
+    (Some (m, rest))
+    → (g : List ℕ) × (bytes ≡ g ++ rest) × (length g < 2 ^ 32)
 short_by ctx bytes rest m true found = first_spelled ctx bytes rest m (frontend_front ctx bytes) refl found
 short_by ctx bytes rest m false found =
     let f = frontend_found ctx bytes m rest found in
     (f.0, f.1, frontend_short ctx.protocol_version m f.0 f.2)
 
-pub client_short : (ctx : DecodeContext) (bytes rest : List ℕ) (m : Frontend) → client_side_front ctx bytes ≡ Ok (Some (m, rest)) → (g : List ℕ) × (bytes ≡ g ++ rest) × (length g < 2 ^ 32)
+pub client_short : (ctx : DecodeContext) (bytes rest : List ℕ) (m : Frontend)
+    → client_side_front ctx bytes ≡ Ok (Some (m, rest)) → (g : List ℕ) × (bytes ≡ g ++ rest) × (length g < 2 ^ 32)
 unfolding client_side_front
 client_short ctx bytes rest m found = short_by ctx bytes rest m ctx.awaiting_frontend_ssl found
 
@@ -122,7 +137,8 @@ spelled_short v (backend.CopyInResponse m) g s = typed_short 71 30000 g (omega a
 spelled_short v (backend.CopyOutResponse m) g s = typed_short 72 30000 g (omega arith) s
 spelled_short v (backend.CopyBothResponse m) g s = typed_short 87 30000 g (omega arith) s
 
-pub server_short : (ctx : DecodeContext) (bytes rest : List ℕ) (m : Backend) → backend_front ctx bytes ≡ Ok (Some (m, rest)) → (g : List ℕ) × (bytes ≡ g ++ rest) × (length g < 2 ^ 32)
+pub server_short : (ctx : DecodeContext) (bytes rest : List ℕ) (m : Backend)
+    → backend_front ctx bytes ≡ Ok (Some (m, rest)) → (g : List ℕ) × (bytes ≡ g ++ rest) × (length g < 2 ^ 32)
 unfolding SpellsIn
 server_short ctx bytes rest m found =
     let f = backend_found ctx bytes m rest found in

@@ -26,7 +26,8 @@ record Alone {M : Type 0} (at : List ℕ → RelayFinding M) (bytes rest : List 
   some : 1 ≤ length g
   again : (more : List ℕ) → at (g ++ more) ≡ Ok (Some (m, more))
 
-alone : {M : Type 0} (at : List ℕ → RelayFinding M) → Stable 1 at → (bytes rest : List ℕ) (m : M) → at bytes ≡ Ok (Some (m, rest)) → Alone at bytes rest m
+alone : {M : Type 0} (at : List ℕ → RelayFinding M) → Stable 1 at → (bytes rest : List ℕ) (m : M)
+    → at bytes ≡ Ok (Some (m, rest)) → Alone at bytes rest m
 alone {M} at stable bytes rest m found =
     let ends = stable.whole bytes m rest found in
     let g = take ends.len bytes in
@@ -57,13 +58,15 @@ some_of x y is = cc
 
 -- ---- a client's
 
-record OfClient (c : Context) (r : RelayFinding Frontend) (rest : List ℕ) (m : Recorded) (next : Context) : Type 0 where
-  x : Frontend
-  read : r ≡ Ok (Some (x, rest))
-  again : (more : List ℕ) → of_client c (Ok (Some (x, more))) ≡ Ok (Some (m, (more, next)))
-  owner : side_of m ≡ Client
+record OfClient (c : Context) (r : RelayFinding Frontend) (rest : List ℕ) (m : Recorded) (next : Context) : Type 0
+  where
+    x : Frontend
+    read : r ≡ Ok (Some (x, rest))
+    again : (more : List ℕ) → of_client c (Ok (Some (x, more))) ≡ Ok (Some (m, (more, next)))
+    owner : side_of m ≡ Client
 
-of_client_is : (c : Context) (r : RelayFinding Frontend) (rest : List ℕ) (m : Recorded) (next : Context) → of_client c r ≡ Ok (Some (m, (rest, next))) → OfClient c r rest m next
+of_client_is : (c : Context) (r : RelayFinding Frontend) (rest : List ℕ) (m : Recorded) (next : Context)
+    → of_client c r ≡ Ok (Some (m, (rest, next))) → OfClient c r rest m next
 of_client_is c (Err e) rest m next is = absurd cc
 of_client_is c (Ok None) rest m next is = absurd cc
 of_client_is c (Ok (Some x)) rest m next is = elim (either (is_due c)) [
@@ -77,16 +80,20 @@ of_client_is c (Ok (Some x)) rest m next is = elim (either (is_due c)) [
       record {
         x = x.0;
         read = ap (λ (l : List ℕ). Ok (Some (x.0, l))) left;
-        again = λ more. rw free (ap (λ (n : Recorded). Ok (Some (n, (more, behind_client x.0 c)))) made ∙ ap (λ (d : Context). Ok (Some (m, (more, d)))) behind);
+        again =
+            λ more. rw free (ap (λ (n : Recorded). Ok (Some (n, (more, behind_client x.0 c)))) made
+            ∙ ap (λ (d : Context). Ok (Some (m, (more, d)))) behind);
         owner = ap side_of (sym made);
       }
 ]
 
-met_client : (c : Context) (bytes rest : List ℕ) (m : Recorded) (next : Context) → side_front Client c bytes ≡ Ok (Some (m, (rest, next))) → Met Client c bytes rest m next
+met_client : (c : Context) (bytes rest : List ℕ) (m : Recorded) (next : Context)
+    → side_front Client c bytes ≡ Ok (Some (m, (rest, next))) → Met Client c bytes rest m next
 unfolding side_front
 met_client c bytes rest m next found =
     let o = of_client_is c (client_side_front (client_context c) bytes) rest m next found in
-    let a = alone (client_side_front (client_context c)) (client_stable (client_context c)) bytes rest o.x o.read in
+    let a =
+    alone (client_side_front (client_context c)) (client_stable (client_context c)) bytes rest o.x o.read in
     let s = client_short (client_context c) bytes rest o.x o.read in
     let same : s.0 ≡ a.g = append_cancel_right s.0 a.g rest (sym s.1 ∙ a.cut) in
     record {
@@ -100,13 +107,15 @@ met_client c bytes rest m next found =
 
 -- ---- a server's
 
-record OfServer (c : Context) (r : RelayFinding Backend) (rest : List ℕ) (m : Recorded) (next : Context) : Type 0 where
-  x : Backend
-  read : r ≡ Ok (Some (x, rest))
-  again : (more : List ℕ) → of_server c (Ok (Some (x, more))) ≡ Ok (Some (m, (more, next)))
-  owner : side_of m ≡ Server
+record OfServer (c : Context) (r : RelayFinding Backend) (rest : List ℕ) (m : Recorded) (next : Context) : Type 0
+  where
+    x : Backend
+    read : r ≡ Ok (Some (x, rest))
+    again : (more : List ℕ) → of_server c (Ok (Some (x, more))) ≡ Ok (Some (m, (more, next)))
+    owner : side_of m ≡ Server
 
-of_server_is : (c : Context) (r : RelayFinding Backend) (rest : List ℕ) (m : Recorded) (next : Context) → of_server c r ≡ Ok (Some (m, (rest, next))) → OfServer c r rest m next
+of_server_is : (c : Context) (r : RelayFinding Backend) (rest : List ℕ) (m : Recorded) (next : Context)
+    → of_server c r ≡ Ok (Some (m, (rest, next))) → OfServer c r rest m next
 of_server_is c (Err e) rest m next is = absurd cc
 of_server_is c (Ok None) rest m next is = absurd cc
 of_server_is c (Ok (Some x)) rest m next is = elim (either (is_accepted x.0)) [
@@ -120,12 +129,15 @@ of_server_is c (Ok (Some x)) rest m next is = elim (either (is_accepted x.0)) [
       record {
         x = x.0;
         read = ap (λ (l : List ℕ). Ok (Some (x.0, l))) left;
-        again = λ more. rw free (ap (λ (n : Recorded). Ok (Some (n, (more, behind_server x.0 c)))) made ∙ ap (λ (d : Context). Ok (Some (m, (more, d)))) behind);
+        again =
+            λ more. rw free (ap (λ (n : Recorded). Ok (Some (n, (more, behind_server x.0 c)))) made
+            ∙ ap (λ (d : Context). Ok (Some (m, (more, d)))) behind);
         owner = ap side_of (sym made);
       }
 ]
 
-met_server : (c : Context) (bytes rest : List ℕ) (m : Recorded) (next : Context) → side_front Server c bytes ≡ Ok (Some (m, (rest, next))) → Met Server c bytes rest m next
+met_server : (c : Context) (bytes rest : List ℕ) (m : Recorded) (next : Context)
+    → side_front Server c bytes ≡ Ok (Some (m, (rest, next))) → Met Server c bytes rest m next
 unfolding side_front
 met_server c bytes rest m next found =
     let o = of_server_is c (backend_front c.decode bytes) rest m next found in
@@ -141,6 +153,7 @@ met_server c bytes rest m next found =
       owner = o.owner;
     }
 
-pub met : (side : Side) (c : Context) (bytes rest : List ℕ) (m : Recorded) (next : Context) → side_front side c bytes ≡ Ok (Some (m, (rest, next))) → Met side c bytes rest m next
+pub met : (side : Side) (c : Context) (bytes rest : List ℕ) (m : Recorded) (next : Context)
+    → side_front side c bytes ≡ Ok (Some (m, (rest, next))) → Met side c bytes rest m next
 met Client c bytes rest m next found = met_client c bytes rest m next found
 met Server c bytes rest m next found = met_server c bytes rest m next found

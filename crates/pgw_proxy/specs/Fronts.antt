@@ -82,5 +82,7 @@ abbrev pub GivesSideFront : Side → Context → List ℕ → Context → List �
     → Result (Option Recorded) ProxyFault → Type 0
 GivesSideFront side c bytes next rest (Ok None) =
     (next ≡ c) × (rest ≡ bytes) × (side_front side c bytes ≡ Ok None)
-GivesSideFront side c bytes next rest (Ok (Some m)) = side_front side c bytes ≡ Ok (Some (m, (rest, next)))
-GivesSideFront side c bytes next rest (Err f) = f ≢ fault.OutOfMemory → side_front side c bytes ≡ Err f
+GivesSideFront side c bytes next rest (Ok (Some m)) =
+    side_front side c bytes ≡ Ok (Some (m, (rest, next)))
+GivesSideFront side c bytes next rest (Err f) =
+    f ≢ fault.OutOfMemory → side_front side c bytes ≡ Err f

@@ -67,7 +67,8 @@ PlainTo side ready bytes (Some end) = (0 < end) × (end ≤ length bytes) × (en
 abbrev pub PlainRuns : Side → Context → List ℕ → List ℕ → List ℕ → List ℕ → List ℕ → List ℕ
     → Type 0
 PlainRuns side c bytes left out_old out_new tape_old tape_new =
-    (more : List ℕ) → RelaysUpTo side c (bytes ++ more) c (left ++ more) out_old out_new tape_old tape_new
+    (more : List ℕ)
+    → RelaysUpTo side c (bytes ++ more) c (left ++ more) out_old out_new tape_old tape_new
 
 -- they were recorded, so many bytes in all
 abbrev pub Tapes : Side → Bool → List ℕ → ℕ → List ℕ → List ℕ → Type 0

@@ -25,14 +25,18 @@ pub data SideEnding : Type 0 where
 -- In this context a side's bytes give these messages, and lead there: nothing whole stands at
 -- their front; or a fault; or memory runs out, at any time; or a message is taken and the bytes
 -- behind it lead on.
-pub data SideTakes (side : Side) : Context → List ℕ → List RelayMessage → SideEnding → Type 0 where
+pub data SideTakes (side : Side) : Context → List ℕ → List RelayMessage → SideEnding
+    → Type 0 where
   waits : (c : Context) → (bytes : List ℕ) → side_front side c bytes ≡ Ok None
       → SideTakes side c bytes [] (Waits c bytes)
-  fails : (c : Context) → (bytes : List ℕ) → (why : ProxyFault) → side_front side c bytes ≡ Err why
+  fails : (c : Context) → (bytes : List ℕ) → (why : ProxyFault)
+      → side_front side c bytes ≡ Err why
       → SideTakes side c bytes [] (Fails why)
   breaks : (c : Context) → (bytes : List ℕ) → SideTakes side c bytes [] (Fails fault.OutOfMemory)
-  passes : (c next : Context) → (bytes g rest : List ℕ) → (m : Recorded) → (more : List RelayMessage)
-      → (there : SideEnding) → bytes ≡ g ++ rest → side_front side c bytes ≡ Ok (Some (m, (rest, next)))
+  passes : (c next : Context) → (bytes g rest : List ℕ) → (m : Recorded)
+      → (more : List RelayMessage)
+      → (there : SideEnding) → bytes ≡ g ++ rest
+      → side_front side c bytes ≡ Ok (Some (m, (rest, next)))
       → SideTakes side next rest more there → SideTakes side c bytes (passed m g ∷ more) there
 
 -- ---- both sides
@@ -66,11 +70,13 @@ side_course side p (Fails why) = Stopped why
 -- server's next piece.
 pub data Proxied : List SideEvent → List RelayMessage → RelayCourse → Type 0 where
   begins : Proxied [] [] (Going (proxy_place first [] []))
-  goes : (events : List SideEvent) → (ms more : List RelayMessage) → (p : ProxyPlace) → (side : Side)
+  goes : (events : List SideEvent) → (ms more : List RelayMessage) → (p : ProxyPlace)
+      → (side : Side)
       → (piece : List ℕ) → (there : SideEnding) → Proxied events ms (Going p)
       → SideTakes side p.context (side_buffer side p ++ piece) more there
       → Proxied (events ++ (side, piece) ∷ []) (ms ++ more) (side_course side p there)
-  stays : (events : List SideEvent) → (ms : List RelayMessage) → (why : ProxyFault) → (side : Side)
+  stays : (events : List SideEvent) → (ms : List RelayMessage) → (why : ProxyFault)
+      → (side : Side)
       → (piece : List ℕ) → Proxied events ms (Stopped why)
       → Proxied (events ++ (side, piece) ∷ []) ms (Stopped why)
 

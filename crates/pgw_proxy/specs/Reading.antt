@@ -54,7 +54,8 @@ message_first m (Err f) = Err f
 
 -- In this context, records from this number on are read as these messages, or the first that is
 -- faulty decides.
-pub data ReadsRelayRecord : Context → ℕ → List ℕ → Result (List Recorded) RecordFault → Type 0 where
+pub data ReadsRelayRecord : Context → ℕ → List ℕ → Result (List Recorded) RecordFault
+    → Type 0 where
   ends : (c : Context) → (n : ℕ) → ReadsRelayRecord c n [] (Ok [])
   missing : (c : Context) → (n : ℕ) → (bytes : List ℕ) → bytes ≢ [] → entry_at bytes ≡ Missing
       → ReadsRelayRecord c n bytes (Err (fault.Truncated n))

@@ -28,7 +28,8 @@ is_relay_wanting f = false
 abbrev pub Becomes : Side → Context → List ℕ → Context → ℕ → Result Recorded RecordFault → Type 0
 Becomes side c bytes next n (Ok m) = message_in side c bytes ≡ Some (m, next)
 Becomes side c bytes next n (Err fault.OutOfMemory) = Unit {0}
-Becomes side c bytes next n (Err (fault.BadMessage k)) = (k ≡ n) × (message_in side c bytes ≡ None)
+Becomes side c bytes next n (Err (fault.BadMessage k)) =
+    (k ≡ n) × (message_in side c bytes ≡ None)
 Becomes side c bytes next n (Err f) = ⊥
 
 -- these messages before what the others are read as

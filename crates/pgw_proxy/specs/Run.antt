@@ -129,7 +129,8 @@ pub record RelaysMessages (turns : List Side) (start last : Links) (messages : L
 pub record Relays (turns : List Side) (client server : Span)
     (client_foretells server_foretells : Type 0) (run : ProxyRun) : Type 0 where
   pub messages : List RelayMessage
-  pub passes : RelaysMessages turns (start_of client server) (relay_links client server) messages run.fault
+  pub passes : RelaysMessages turns (start_of client server) (relay_links client server) messages
+      run.fault
   pub record_is : run.tape ≡ record_of messages
   pub known : run.fault ≢ Some fault.OutOfMemory
   pub client_foretold : client_foretells → IsRelayForetold client
@@ -140,7 +141,8 @@ pub record Unrecorded (turns : List Side) (client server : Span)
     (client_foretells server_foretells : Type 0) : Type 0 where
   pub messages : List RelayMessage
   pub why : Option ProxyFault
-  pub passes : RelaysMessages turns (start_of client server) (relay_links client server) messages why
+  pub passes : RelaysMessages turns (start_of client server) (relay_links client server) messages
+      why
   pub client_foretold : client_foretells → IsRelayForetold client
   pub server_foretold : server_foretells → IsRelayForetold server
 

@@ -19,8 +19,10 @@ use Rattle.pgw_proxy.specs.Run.{Span, HadTurns, RelaysMessages, start_of, relay_
 
 -- a read gave the front of the buffer, or failed
 abbrev pub SideWasRead : Side → Tape → Tape → List ℕ → Result ℕ ProxyFault → Type 0
-SideWasRead side old new buffer (Ok n) = (n ≤ 8192) × (n ≤ length buffer) × Took old new (take n buffer)
-SideWasRead side old new buffer (Err f) = (f ≡ io_of side) × LinkFails old new (old.reads + 1) old.writes
+SideWasRead side old new buffer (Ok n) =
+    (n ≤ 8192) × (n ≤ length buffer) × Took old new (take n buffer)
+SideWasRead side old new buffer (Err f) =
+    (f ≡ io_of side) × LinkFails old new (old.reads + 1) old.writes
 
 -- what was due was written and flushed, where there was something; or a front of it
 abbrev pub Delivers : Side → Tape → Tape → List ℕ → Result (Unit {0}) ProxyFault → Type 0
@@ -41,7 +43,8 @@ end_by Client from to = relay_links from to
 end_by Server from to = relay_links to from
 
 -- what a turn of a proxy comes to, its record and itself among it
-pub record RelayMoves (side : Side) (old new : Proxy) (tape_old tape_new : List ℕ) (start last : Links)
+pub record RelayMoves (side : Side) (old new : Proxy) (tape_old tape_new : List ℕ)
+    (start last : Links)
     (answer : Result (Unit {0}) ProxyFault) : Type 0 where
   pub events : List SideEvent
   pub messages : List RelayMessage
@@ -56,7 +59,8 @@ pub record RelayMoves (side : Side) (old new : Proxy) (tape_old tape_new : List 
 pub record Half (side : Side) (start last : Links) (turns : List Side) (events : List SideEvent)
     (messages : List RelayMessage) : Type 0 where
   pub took : (side_tape side last).took ≡ (side_tape side start).took ++ side_input side events
-  pub wrote : (side_tape side last).wrote ≡ (side_tape side start).wrote ++ side_bytes (other side) messages
+  pub wrote : (side_tape side last).wrote ≡ (side_tape side start).wrote ++ side_bytes
+      (other side) messages
   pub flushed : side_bytes (other side) messages ≢ []
       → (side_tape side last).flushed ≡ length (side_tape side last).wrote
   pub calm : side_faults side last ≡ side_faults side start
@@ -65,7 +69,8 @@ pub record Half (side : Side) (start last : Links) (turns : List Side) (events :
   pub turns_made : HadTurns (side_tape side start) (side_tape side last) (turns_of side turns)
       (side_input side events)
 
-pub record RelayRuns (turns : List Side) (proxy : Proxy) (tape : List ℕ) (start last : Links) : Type 0 where
+pub record RelayRuns (turns : List Side) (proxy : Proxy) (tape : List ℕ) (start last : Links) :
+    Type 0 where
   pub events : List SideEvent
   pub messages : List RelayMessage
   pub made : Turns start turns events messages (Going (place_in_proxy proxy)) last None
@@ -80,9 +85,11 @@ pub record RelayRuns (turns : List Side) (proxy : Proxy) (tape : List ℕ) (star
 abbrev pub RelayStops : List Side → Span → Span → List ℕ → Result (Unit {0}) ProxyFault → Type 0
 RelayStops turns client server tape answer =
     (messages : List RelayMessage) × (tape ≡ record_of messages)
-    × RelaysMessages turns (start_of client server) (relay_links client server) messages (relay_fault answer)
+    × RelaysMessages turns (start_of client server) (relay_links client server) messages
+    (relay_fault answer)
 
-abbrev pub EndsRelayRun : {E : Type 0} → List ℕ → Result (Unit {0}) ProxyFault → Result ProxyRun E → Type 0
+abbrev pub EndsRelayRun : {E : Type 0} → List ℕ → Result (Unit {0}) ProxyFault → Result ProxyRun E
+    → Type 0
 EndsRelayRun tape stopped (Ok run) =
     (stopped ≢ Err fault.OutOfMemory) × (run.tape ≡ tape) × (run.fault ≡ relay_fault stopped)
 EndsRelayRun tape stopped (Err e) = Unit {0}

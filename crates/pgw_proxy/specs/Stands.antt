@@ -41,7 +41,8 @@ told_at (Going p) = Ok tt
 told_at (Stopped why) = Err why
 
 -- The same, where a call has just led there, and its answer says so, of a proxy that went on.
-pub record ProxyArrives (old new : Proxy) (events : List SideEvent) (to_server to_client tape : List ℕ)
+pub record ProxyArrives (old new : Proxy) (events : List SideEvent)
+    (to_server to_client tape : List ℕ)
     (answer : Result (Unit {0}) ProxyFault) : Type 0 where
   pub stands : RelayStands new events to_server to_client tape
   pub says : ProxyGoesOn old → answer ≡ told_at stands.course
@@ -53,7 +54,8 @@ pub record Forwards (side : Side) (old new : Proxy)
     (answer : Result (Unit {0}) ProxyFault) : Type 0 where
   pub messages : List RelayMessage
   pub there : SideEnding
-  pub takes : SideTakes side old.context (side_buffer side (place_in_proxy old) ++ piece) messages there
+  pub takes : SideTakes side old.context (side_buffer side (place_in_proxy old) ++ piece) messages
+      there
   pub at : IsRelayAt new (side_course side (place_in_proxy old) there)
   pub out : out_new ≡ out_old ++ side_bytes side messages
   pub tape : tape_new ≡ tape_old ++ record_of messages

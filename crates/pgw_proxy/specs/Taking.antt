@@ -39,10 +39,12 @@ pub record RelaysUpTo (side : Side) (c : Context) (bytes : List ℕ) (next : Con
   pub tape : tape_new ≡ tape_old ++ record_of messages
 
 -- one message was passed on and recorded, or none is whole, or there was a fault
-abbrev pub StepsRelay : Side → Context → List ℕ → Context → List ℕ → List ℕ → List ℕ → List ℕ → List ℕ
+abbrev pub StepsRelay : Side → Context → List ℕ → Context → List ℕ → List ℕ → List ℕ → List ℕ
+    → List ℕ
     → Result Bool ProxyFault → Type 0
 StepsRelay side c bytes next left out_old out_new tape_old tape_new (Ok true) =
-    RelaysUpTo side c bytes next left out_old out_new tape_old tape_new × (length left < length bytes)
+    RelaysUpTo side c bytes next left out_old out_new tape_old tape_new
+    × (length left < length bytes)
 StepsRelay side c bytes next left out_old out_new tape_old tape_new (Ok false) =
     SideRelayed side c bytes next left out_old out_new tape_old tape_new (Ok tt)
 StepsRelay side c bytes next left out_old out_new tape_old tape_new (Err f) =

@@ -61,7 +61,8 @@ Gave side old new bytes = Took (side_tape side old) (side_tape side new) bytes
 -- it was read once, and the read failed
 abbrev pub SideReadFails : Side → Links → Links → Type 0
 SideReadFails side old new =
-    LinkFails (side_tape side old) (side_tape side new) ((side_tape side old).reads + 1) (side_tape side old).writes
+    LinkFails (side_tape side old) (side_tape side new) ((side_tape side old).reads + 1)
+    (side_tape side old).writes
     × Rose (side_faults side old) (side_faults side new)
 
 -- these bytes were written to it, all of them, and flushed; no call where there are none
@@ -75,7 +76,8 @@ Got side old new bytes = WritesToSide bytes (side_tape side old) (side_tape side
 
 -- a front of them was, and a call failed
 abbrev pub GotSome : Side → Links → Links → List ℕ → Type 0
-GotSome side old new bytes = (bytes ≢ []) × WroteSome (side_tape side old) (side_tape side new) bytes
+GotSome side old new bytes =
+    (bytes ≢ []) × WroteSome (side_tape side old) (side_tape side new) bytes
     × Rose (side_faults side old) (side_faults side new)
 
 -- ---- one turn
@@ -86,12 +88,14 @@ pub data Turn (side : Side) (p : ProxyPlace) (old new : Links)
     : List SideEvent → List RelayMessage → RelayCourse → Option ProxyFault → Type 0 where
   unread : SideReadFails side old new → Still (other side) old new
       → Turn side p old new [] [] (Going p) (Some (io_of side))
-  ended : Gave side old new [] → Still (other side) old new → Turn side p old new [] [] (Going p) None
+  ended : Gave side old new [] → Still (other side) old new
+      → Turn side p old new [] [] (Going p) None
   sent : (piece : List ℕ) → (ms : List RelayMessage) → (there : SideEnding) → 0 < length piece
       → length piece ≤ 8192 → Gave side old new piece
       → SideTakes side p.context (side_buffer side p ++ piece) ms there
       → Got (other side) old new (side_bytes side ms)
-      → Turn side p old new ((side, piece) ∷ []) ms (side_course side p there) (relay_fault (relay_answer there))
+      → Turn side p old new ((side, piece) ∷ []) ms (side_course side p there)
+      (relay_fault (relay_answer there))
   unsent : (piece : List ℕ) → (ms : List RelayMessage) → (there : SideEnding) → 0 < length piece
       → length piece ≤ 8192 → Gave side old new piece
       → SideTakes side p.context (side_buffer side p ++ piece) ms there
@@ -104,9 +108,12 @@ pub data Turn (side : Side) (p : ProxyPlace) (old new : Links)
 -- These turns were made, one behind the other, and none behind a fault: the events, the messages that were passed on,
 -- and where they lead.
 pub data Turns (start : Links)
-    : List Side → List SideEvent → List RelayMessage → RelayCourse → Links → Option ProxyFault → Type 0 where
+    : List Side → List SideEvent → List RelayMessage → RelayCourse → Links → Option ProxyFault
+    → Type 0 where
   begins : Turns start [] [] [] (Going (proxy_place first [] [])) start None
-  goes_on : (turns : List Side) → (events more : List SideEvent) → (ms others : List RelayMessage) → (p : ProxyPlace)
+  goes_on : (turns : List Side) → (events more : List SideEvent) → (ms others : List RelayMessage)
+      → (p : ProxyPlace)
       → (side : Side) → (mid last : Links) → (course : RelayCourse) → (why : Option ProxyFault)
-      → Turns start turns events ms (Going p) mid None → Turn side p mid last more others course why
+      → Turns start turns events ms (Going p) mid None
+      → Turn side p mid last more others course why
       → Turns start (turns ++ side ∷ []) (events ++ more) (ms ++ others) course last why

@@ -78,7 +78,8 @@ fn take_client<B: Buffer>(
     context: &mut Context,
     bytes: &mut B,
 ) -> Result<Option<Recorded>, ProxyFault>
-    ensures { GivesSideFront Client context.old (B.held bytes.old) context.new (B.held bytes.new) result }
+    ensures { GivesSideFront Client context.old (B.held bytes.old) context.new (B.held bytes.new)
+        result }
 {
     match decode_client(alloc, &client_context(context), bytes) {
         Ok(None) => Ok(None),
@@ -101,7 +102,8 @@ fn take_server<B: Buffer>(
     context: &mut Context,
     bytes: &mut B,
 ) -> Result<Option<Recorded>, ProxyFault>
-    ensures { GivesSideFront Server context.old (B.held bytes.old) context.new (B.held bytes.new) result }
+    ensures { GivesSideFront Server context.old (B.held bytes.old) context.new (B.held bytes.new)
+        result }
 {
     match PgWireBackendMessage::decode_from(alloc, bytes, &context.decode) {
         Ok(None) => Ok(None),
@@ -124,7 +126,8 @@ pub fn take_message<B: Buffer>(
     context: &mut Context,
     bytes: &mut B,
 ) -> Result<Option<Recorded>, ProxyFault>
-    ensures { GivesSideFront side context.old (B.held bytes.old) context.new (B.held bytes.new) result }
+    ensures { GivesSideFront side context.old (B.held bytes.old) context.new (B.held bytes.new)
+        result }
 {
     match side {
         Side::Client => take_client(alloc, context, bytes),

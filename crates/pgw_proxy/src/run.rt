@@ -175,8 +175,10 @@ fn turn_of<A: Link, B: Link>(
         (relay_links (span A.tape A.left A.faults client.old client.new)
         (span B.tape B.left B.faults server.old server.new))
         result }
-    ensures client { A.foretells → IsRelayForetold (span A.tape A.left A.faults client.old client.new) }
-    ensures server { B.foretells → IsRelayForetold (span B.tape B.left B.faults server.old server.new) }
+    ensures client { A.foretells → IsRelayForetold
+        (span A.tape A.left A.faults client.old client.new) }
+    ensures server { B.foretells → IsRelayForetold
+        (span B.tape B.left B.faults server.old server.new) }
     ensures kept { (A.plan client.new ≡ A.plan client.old)
         × (B.plan server.new ≡ B.plan server.old) }
 {
@@ -197,8 +199,10 @@ fn take_turns<A: Link, B: Link>(
     requires { tape.old.items ≡ [] }
     ensures relays { RelayStops turns.now (span A.tape A.left A.faults client.old client.new)
         (span B.tape B.left B.faults server.old server.new) tape.new.items result }
-    ensures client { A.foretells → IsRelayForetold (span A.tape A.left A.faults client.old client.new) }
-    ensures server { B.foretells → IsRelayForetold (span B.tape B.left B.faults server.old server.new) }
+    ensures client { A.foretells → IsRelayForetold
+        (span A.tape A.left A.faults client.old client.new) }
+    ensures server { B.foretells → IsRelayForetold
+        (span B.tape B.left B.faults server.old server.new) }
     ensures kept { (A.plan client.new ≡ A.plan client.old)
         × (B.plan server.new ≡ B.plan server.old) }
 {

@@ -197,7 +197,8 @@ fn take_behind(
     out: &mut BytesMut,
     tape: &mut BytesMut,
 ) -> Result<(), ProxyFault>
-    ensures { SideRelayed side context.old (waiting.old.items ++ piece.now) context.new waiting.new.items
+    ensures { SideRelayed side context.old (waiting.old.items ++ piece.now) context.new
+        waiting.new.items
         out.old.items out.new.items tape.old.items tape.new.items result }
 {
     match append(alloc, waiting, piece) {
@@ -216,7 +217,8 @@ pub fn take_piece(
     out: &mut BytesMut,
     tape: &mut BytesMut,
 ) -> Result<(), ProxyFault>
-    ensures { SideRelayed side context.old (waiting.old.items ++ piece.now) context.new waiting.new.items
+    ensures { SideRelayed side context.old (waiting.old.items ++ piece.now) context.new
+        waiting.new.items
         out.old.items out.new.items tape.old.items tape.new.items result }
 {
     match pass_front(alloc, side, context, waiting, piece, out, tape) {

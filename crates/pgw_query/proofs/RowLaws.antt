@@ -21,11 +21,17 @@ use Rattle.pgw_wire.proofs.MarkLaws.{marked_reads, code_reads}
 
 pub command_complete : (ctx : DecodeContext) → IsRow 67 30000 (command_complete_of ctx) SpellsCommandComplete
 unfolding command_complete_of
-command_complete ctx = is_row 67 30000 (lit< tt) _ SpellsCommandComplete (made_last (λ t. record { tag = t }) (λ m. m.tag) text_at SpellsText (λ x. refl) (λ y. refl) (reads_last text_at SpellsText text_reads))
+command_complete ctx =
+    is_row 67 30000 (lit< tt) _ SpellsCommandComplete
+    (made_last (λ t. record { tag = t }) (λ m. m.tag) text_at SpellsText (λ x. refl) (λ y. refl)
+    (reads_last text_at SpellsText text_reads))
 
 pub query : (ctx : DecodeContext) → IsRow 81 1073741822 (query_of ctx) SpellsQuery
 unfolding query_of
-query ctx = is_row 81 1073741822 (lit< tt) _ SpellsQuery (made_last (λ t. record { query = t }) (λ m. m.query) text_at SpellsText (λ x. refl) (λ y. refl) (reads_last text_at SpellsText text_reads))
+query ctx =
+    is_row 81 1073741822 (lit< tt) _ SpellsQuery
+    (made_last (λ t. record { query = t }) (λ m. m.query) text_at SpellsText (λ x. refl) (λ y. refl)
+    (reads_last text_at SpellsText text_reads))
 
 field_reads : ReadsFormat field_at SpellsField
 unfolding field_at
@@ -39,7 +45,11 @@ field_reads = made_reads field_of field_parts _ _ (λ x. refl) (λ y. refl)
 
 pub data_row : (ctx : DecodeContext) → IsRow 68 2147483647 (data_row_of ctx) SpellsDataRow
 unfolding data_row_of
-data_row ctx = is_row 68 2147483647 (lit< tt) _ SpellsDataRow (made_last (λ p. record { payload = p.1; field_count = p.0 }) (λ m. (m.field_count, m.payload)) _ _ (λ x. refl) (λ y. refl) (pair_last (int_at w16) (SpellsInt w16) rest_at IsRest (int_reads w16) rest_reads))
+data_row ctx =
+    is_row 68 2147483647 (lit< tt) _ SpellsDataRow
+    (made_last (λ p. record { payload = p.1; field_count = p.0 }) (λ m. (m.field_count, m.payload)) _ _
+    (λ x. refl) (λ y. refl)
+    (pair_last (int_at w16) (SpellsInt w16) rest_at IsRest (int_reads w16) rest_reads))
 
 field_least : (f : _) (bytes : List ℕ) → SpellsField f bytes → 19 ≤ length bytes
 field_least f bytes h =
@@ -72,7 +82,8 @@ pub row_description : (ctx : DecodeContext) → IsRow 84 2147483647 (row_descrip
 unfolding row_description_of
 row_description ctx = is_row 84 2147483647 (lit< tt) _ SpellsRowDescription
     (made_last (λ fields. record { fields = fields }) (λ m. m.fields) _ _ (λ x. refl) (λ y. refl)
-    (reads_last (counted_at w16 19 field_at) (SpellsCounted w16 SpellsField) (counted_reads w16 count16 field_at SpellsField 19 (lit< tt) field_least field_reads)))
+    (reads_last (counted_at w16 19 field_at) (SpellsCounted w16 SpellsField)
+    (counted_reads w16 count16 field_at SpellsField 19 (lit< tt) field_least field_reads)))
 
 status_back : (b : ℕ) (s : TransactionStatus) → status_of_byte b ≡ Ok s → status_byte s ≡ b
 unfolding status_of_byte
@@ -80,9 +91,11 @@ status_back b s e =
     elim (chosen (eqb b 73) _ _ _ e) [
       | inl h ↦ subst (λ (t : TransactionStatus). status_byte t ≡ b) (ok_is Idle s h.1) (sym (eqb-true _ _ h.0))
       | inr h ↦ elim (chosen (eqb b 84) _ _ _ h.1) [
-        | inl h ↦ subst (λ (t : TransactionStatus). status_byte t ≡ b) (ok_is Transaction s h.1) (sym (eqb-true _ _ h.0))
+        | inl h ↦ subst (λ (t : TransactionStatus). status_byte t ≡ b) (ok_is Transaction s h.1)
+            (sym (eqb-true _ _ h.0))
         | inr h ↦ elim (chosen (eqb b 69) _ _ _ h.1) [
-          | inl h ↦ subst (λ (t : TransactionStatus). status_byte t ≡ b) (ok_is Error s h.1) (sym (eqb-true _ _ h.0))
+          | inl h ↦ subst (λ (t : TransactionStatus). status_byte t ≡ b) (ok_is Error s h.1)
+              (sym (eqb-true _ _ h.0))
           | inr h ↦ absurd cc
         ]
       ]
@@ -94,11 +107,14 @@ status_again Idle = refl
 status_again Transaction = refl
 status_again Error = refl
 
-pub ready_for_query : (ctx : DecodeContext) → IsRow 90 30000 (ready_for_query_of ctx) (λ m. SpellsNat w8 (status_byte m.status))
+pub ready_for_query : (ctx : DecodeContext)
+    → IsRow 90 30000 (ready_for_query_of ctx) (λ m. SpellsNat w8 (status_byte m.status))
 unfolding ready_for_query_of
 ready_for_query ctx = is_row 90 30000 (lit< tt) _ (λ m. SpellsNat w8 (status_byte m.status))
     (made_last (λ s. record { status = s }) (λ m. m.status) _ _ (λ x. refl) (λ y. refl)
-    (reads_last (tried_at status_of_byte (nat_at w8)) (λ s. SpellsNat w8 (status_byte s)) (tried_reads status_of_byte status_byte (nat_at w8) (SpellsNat w8) status_back status_again (nat_reads w8))))
+    (reads_last (tried_at status_of_byte (nat_at w8)) (λ s. SpellsNat w8 (status_byte s))
+    (tried_reads status_of_byte status_byte (nat_at w8) (SpellsNat w8) status_back status_again
+    (nat_reads w8))))
 
 pub empty_query_response : (ctx : DecodeContext) → IsRow 73 30000 (empty_query_response_of ctx) NoBody
 unfolding empty_query_response_of
@@ -108,26 +124,39 @@ pub no_data : (ctx : DecodeContext) → IsRow 110 30000 (no_data_of ctx) NoBody
 unfolding no_data_of
 no_data ctx = no_body_row 110 30000 (lit< tt) (record {}) (λ n. refl)
 
-pub parameter_description : (ctx : DecodeContext) → IsRow 116 2147483647 (parameter_description_of ctx) SpellsParameterDescription
+pub parameter_description : (ctx : DecodeContext)
+    → IsRow 116 2147483647 (parameter_description_of ctx) SpellsParameterDescription
 unfolding parameter_description_of
 parameter_description ctx = is_row 116 2147483647 (lit< tt) _ SpellsParameterDescription
     (made_last (λ types. record { types = types }) (λ m. m.types) _ _ (λ x. refl) (λ y. refl)
-    (reads_last (counted16_at 4 (nat_at w32)) (SpellsCounted16 (SpellsNat w32)) (counted16_reads (nat_at w32) (SpellsNat w32) 4 (λ x f h. omega (arith, h.0)) (nat_reads w32))))
+    (reads_last (counted16_at 4 (nat_at w32)) (SpellsCounted16 (SpellsNat w32))
+    (counted16_reads (nat_at w32) (SpellsNat w32) 4 (λ x f h. omega (arith, h.0)) (nat_reads w32))))
 
-pub notification_response : (ctx : DecodeContext) → IsRow 65 2147483647 (notification_response_of ctx) SpellsNotificationResponse
+pub notification_response : (ctx : DecodeContext)
+    → IsRow 65 2147483647 (notification_response_of ctx) SpellsNotificationResponse
 unfolding notification_response_of
 notification_response ctx = is_row 65 2147483647 (lit< tt) _ SpellsNotificationResponse
-    (made_last (λ p. record { pid = p.0; channel = p.1.0; payload = p.1.1 }) (λ m. (m.pid, (m.channel, m.payload))) _ _ (λ x. refl) (λ y. refl)
-    (reads_last _ _ (pair_reads (int_at w32) (SpellsInt w32) _ _ (int_reads w32) (pair_reads text_at SpellsText text_at SpellsText text_reads text_reads))))
+    (made_last (λ p. record { pid = p.0; channel = p.1.0; payload = p.1.1 })
+    (λ m. (m.pid, (m.channel, m.payload))) _ _ (λ x. refl) (λ y. refl)
+    (reads_last _ _ (pair_reads (int_at w32) (SpellsInt w32) _ _ (int_reads w32)
+    (pair_reads text_at SpellsText text_at SpellsText text_reads text_reads))))
 
 codes_reads : ReadsLast codes_at (SpellsMarked SpellsCode)
 unfolding codes_at
-codes_reads = reads_last (marked_list_at code_at) (SpellsMarked SpellsCode) (marked_reads code_at SpellsCode code_shrinks code_reads)
+codes_reads =
+    reads_last (marked_list_at code_at) (SpellsMarked SpellsCode)
+    (marked_reads code_at SpellsCode code_shrinks code_reads)
 
 pub error_response : (ctx : DecodeContext) → IsRow 69 2147483647 (error_response_of ctx) SpellsErrorResponse
 unfolding error_response_of
-error_response ctx = is_row 69 2147483647 (lit< tt) _ SpellsErrorResponse (made_last (λ fields. record { fields = fields }) (λ m. m.fields) codes_at (SpellsMarked SpellsCode) (λ x. refl) (λ y. refl) codes_reads)
+error_response ctx =
+    is_row 69 2147483647 (lit< tt) _ SpellsErrorResponse
+    (made_last (λ fields. record { fields = fields }) (λ m. m.fields) codes_at (SpellsMarked SpellsCode)
+    (λ x. refl) (λ y. refl) codes_reads)
 
 pub notice_response : (ctx : DecodeContext) → IsRow 78 2147483647 (notice_response_of ctx) SpellsNoticeResponse
 unfolding notice_response_of
-notice_response ctx = is_row 78 2147483647 (lit< tt) _ SpellsNoticeResponse (made_last (λ fields. record { fields = fields }) (λ m. m.fields) codes_at (SpellsMarked SpellsCode) (λ x. refl) (λ y. refl) codes_reads)
+notice_response ctx =
+    is_row 78 2147483647 (lit< tt) _ SpellsNoticeResponse
+    (made_last (λ fields. record { fields = fields }) (λ m. m.fields) codes_at (SpellsMarked SpellsCode)
+    (λ x. refl) (λ y. refl) codes_reads)

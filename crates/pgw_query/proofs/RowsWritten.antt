@@ -33,15 +33,21 @@ byte_written n small = (refl, omega (arith, small))
 
 code_written : (p : ℕ × List ℕ) → IsCoded p → is_code_refused p ≡ false → SpellsCode (Some p) (coded p)
 code_written p sound fine =
-    let parts = or_parts (eqb p.0 0) (has_zero p.1) fine in
-    ((p.0 ∷ [], text p.1, refl, byte_written p.0 sound.code, text_written p.1 parts.1 sound.text), positive p.0 (eqb-false p.0 0 parts.0))
+    let parts = or_parts (eqb p.0 0) (has_zero p.1) fine in (
+      (p.0 ∷ [], text p.1, refl, byte_written p.0 sound.code, text_written p.1 parts.1 sound.text),
+      positive p.0
+          (eqb-false p.0 0 parts.0),
+    )
   where
     positive : (n : ℕ) → (n ≡ 0 → ⊥) → 0 < n
     positive zero other = absurd (other refl)
     positive (suc n) other = omega arith
 
-pub codes_written : (fields : List (ℕ × List ℕ)) → AreCoded fields → codes_fault fields ≡ None → SpellsMarked SpellsCode fields (codes fields)
-codes_written fields sound fine = marked_written SpellsCode coded (0 ∷ []) IsCoded is_code_refused (refl, refl) code_written fields sound (unrefused _ fine)
+pub codes_written : (fields : List (ℕ × List ℕ)) → AreCoded fields → codes_fault fields ≡ None
+    → SpellsMarked SpellsCode fields (codes fields)
+codes_written fields sound fine =
+    marked_written SpellsCode coded (0 ∷ []) IsCoded is_code_refused (refl, refl) code_written fields sound
+    (unrefused _ fine)
 
 int16_written : (z : ℤ) → FitsSigned w16 z → SpellsInt w16 z (i16 z)
 unfolding i16
@@ -57,12 +63,14 @@ oid_written n small = nat_written w32 wide32 n small
 
 signed_count_written : (n : ℕ) → n < 2 ^ 15 → SpellsInt w16 (pos n) (u16 n)
 unfolding u16
-signed_count_written n small = let fits : FitsSigned w16 (pos n) = omega (arith, ints, small) in int_written w16 wide16 (pos n) fits
+signed_count_written n small =
+    let fits : FitsSigned w16 (pos n) = omega (arith, ints, small) in int_written w16 wide16 (pos n) fits
 
 field_written : (f : FieldDescription) → IsField f → has_zero f.name ≡ false → SpellsField f (field f)
 field_written f is none = (
   text f.name,
-  i32 f.table_id ++ (i16 f.column_id ++ (u32 f.type_id ++ (i16 f.type_size ++ (i32 f.type_modifier ++ i16 f.format_code)))),
+  i32 f.table_id ++ (i16 f.column_id ++ (u32 f.type_id
+      ++ (i16 f.type_size ++ (i32 f.type_modifier ++ i16 f.format_code)))),
   simp append_assoc,
   text_written f.name none is.name,
   (
@@ -85,26 +93,53 @@ field_written f is none = (
           i32 f.type_modifier ++ i16 f.format_code,
           refl,
           int16_written f.type_size is.type_size,
-          (i32 f.type_modifier, i16 f.format_code, refl, int32_written f.type_modifier is.type_modifier, int16_written f.format_code is.format_code),
+          (
+            i32 f.type_modifier,
+            i16 f.format_code,
+            refl,
+            int32_written f.type_modifier is.type_modifier,
+            int16_written f.format_code is.format_code,
+          ),
         ),
       ),
     ),
   ),
 )
 
-pub row_description_written : (m : RowDescription) → AreFields m.fields → is_refused m.fields ≡ false → SpellsRowDescription m (row_description m)
+pub row_description_written : (m : RowDescription) → AreFields m.fields → is_refused m.fields ≡ false
+    → SpellsRowDescription m (row_description m)
 row_description_written m is fine =
     let parts = or_parts (ltb 32767 (length m.fields)) (list_any (λ f. has_zero f.name) m.fields) fine in
-    let few : length m.fields < 2 ^ 15 = omega (arith, ltb-false _ _ parts.0) in
-    (u16 (length m.fields), flat_map field m.fields, refl, signed_count_written (length m.fields) few, many_written SpellsField field IsField (λ f. has_zero f.name) field_written m.fields is parts.1)
+    let few : length m.fields < 2 ^ 15 = omega (arith, ltb-false _ _ parts.0) in (
+      u16 (length m.fields),
+      flat_map field m.fields,
+      refl,
+      signed_count_written (length m.fields) few,
+      many_written SpellsField field IsField (λ f. has_zero f.name) field_written m.fields is parts.1,
+    )
 
 pub data_row_written : (m : DataRow) → IsDataRow m → SpellsDataRow m (data_row m)
 data_row_written m fits = (i16 m.field_count, m.payload, refl, int16_written m.field_count fits, refl)
 
-pub parameter_description_written : (m : ParameterDescription) → IsParameterDescription m → refused_if (is_too_long m.types) ≡ None → SpellsParameterDescription m (counted16 u32 m.types)
-parameter_description_written m sound fine = counted16_written (SpellsNat w32) u32 IsOid oid_written m.types sound (unrefused _ fine)
+pub parameter_description_written : (m : ParameterDescription) → IsParameterDescription m
+    → refused_if (is_too_long m.types) ≡ None → SpellsParameterDescription m (counted16 u32 m.types)
+parameter_description_written m sound fine =
+    counted16_written (SpellsNat w32) u32 IsOid oid_written m.types sound (unrefused _ fine)
 
-pub notification_response_written : (m : NotificationResponse) → IsNotification m → refused_if (is_notification_refused m) ≡ None → SpellsNotificationResponse m (notification_response m)
+pub notification_response_written : (m : NotificationResponse) → IsNotification m
+    → refused_if (is_notification_refused m) ≡ None → SpellsNotificationResponse m (notification_response m)
 notification_response_written m sound fine =
-    let p = or_parts (has_zero m.channel) (has_zero m.payload) (unrefused _ fine) in
-    (i32 m.pid, text m.channel ++ text m.payload, append_assoc (i32 m.pid) (text m.channel) (text m.payload), int32_written m.pid sound.0, (text m.channel, text m.payload, refl, text_written m.channel p.0 sound.1, text_written m.payload p.1 sound.2))
+    let p = or_parts (has_zero m.channel) (has_zero m.payload) (unrefused _ fine) in (
+      i32 m.pid,
+      text m.channel ++ text m.payload,
+      append_assoc (i32 m.pid) (text m.channel) (text m.payload),
+      int32_written m.pid sound.0,
+      (
+        text m.channel,
+        text m.payload,
+        refl,
+        text_written m.channel p.0 sound.1,
+        text_written m.payload p.1
+            sound.2,
+      ),
+    )

@@ -28,7 +28,10 @@ use Rattle.pgw_wire.specs.Counted.{counted16_at, SpellsCounted16}
 -- ---- ReadyForQuery
 
 unfoldable pub status_of_byte : ℕ → Result TransactionStatus PgWireError
-status_of_byte b = if b == 73 then Ok Idle else (if b == 84 then Ok Transaction else (if b == 69 then Ok Error else Err (InvalidTransactionStatus b)))
+status_of_byte b =
+    if b == 73 then Ok Idle else
+    (if b == 84 then Ok Transaction else
+    (if b == 69 then Ok Error else Err (InvalidTransactionStatus b)))
 
 abbrev pub status_byte : TransactionStatus → ℕ
 status_byte Idle = 73
@@ -36,7 +39,8 @@ status_byte Transaction = 84
 status_byte Error = 69
 
 unfoldable pub ready_for_query_of : DecodeContext → List ℕ → Result ReadyForQuery PgWireError
-ready_for_query_of ctx bytes = all_of (made_at (λ s. record { status = s }) (tried_at status_of_byte (nat_at w8)) bytes)
+ready_for_query_of ctx bytes =
+    all_of (made_at (λ s. record { status = s }) (tried_at status_of_byte (nat_at w8)) bytes)
 
 abbrev pub SpellsReadyForQuery : ReadyForQuery → List ℕ → Type 0
 SpellsReadyForQuery m = SpellsNat w8 (status_byte m.status)
@@ -51,7 +55,8 @@ SpellsCommandComplete m = SpellsText m.tag
 
 -- ---- EmptyQueryResponse
 
-unfoldable pub empty_query_response_of : DecodeContext → List ℕ → Result EmptyQueryResponse PgWireError
+unfoldable pub empty_query_response_of : DecodeContext → List ℕ
+    → Result EmptyQueryResponse PgWireError
 empty_query_response_of ctx bytes = all_of (Ok (record {}, bytes))
 
 -- ---- ErrorResponse, NoticeResponse
@@ -61,10 +66,12 @@ unfoldable pub codes_at : List ℕ → Result (List (ℕ × List ℕ) × List �
 codes_at bytes = marked_list_at code_at bytes
 
 unfoldable pub error_response_of : DecodeContext → List ℕ → Result ErrorResponse PgWireError
-error_response_of ctx bytes = all_of (made_at (λ fields. record { fields = fields }) codes_at bytes)
+error_response_of ctx bytes =
+    all_of (made_at (λ fields. record { fields = fields }) codes_at bytes)
 
 unfoldable pub notice_response_of : DecodeContext → List ℕ → Result NoticeResponse PgWireError
-notice_response_of ctx bytes = all_of (made_at (λ fields. record { fields = fields }) codes_at bytes)
+notice_response_of ctx bytes =
+    all_of (made_at (λ fields. record { fields = fields }) codes_at bytes)
 
 abbrev pub SpellsErrorResponse : ErrorResponse → List ℕ → Type 0
 SpellsErrorResponse m = SpellsMarked SpellsCode m.fields
@@ -93,22 +100,47 @@ abbrev pub FieldParts : Type 0
 FieldParts = List ℕ × (ℤ × (ℤ × (ℕ × (ℤ × (ℤ × ℤ)))))
 
 abbrev pub field_of : FieldParts → FieldDescription
-field_of p = record { name = p.0; table_id = p.1.0; column_id = p.1.1.0; type_id = p.1.1.1.0; type_size = p.1.1.1.1.0; type_modifier = p.1.1.1.1.1.0; format_code = p.1.1.1.1.1.1 }
+field_of p =
+    record {
+      name = p.0;
+      table_id = p.1.0;
+      column_id = p.1.1.0;
+      type_id = p.1.1.1.0;
+      type_size =
+          p.1.1.1.1.0;
+      type_modifier = p.1.1.1.1.1.0;
+      format_code = p.1.1.1.1.1.1;
+    }
 
 abbrev pub field_parts : FieldDescription → FieldParts
-field_parts f = (f.name, (f.table_id, (f.column_id, (f.type_id, (f.type_size, (f.type_modifier, f.format_code))))))
+field_parts f = (
+  f.name,
+  (
+    f.table_id,
+    (f.column_id, (f.type_id, (f.type_size, (f.type_modifier, f.format_code)))),
+  ),
+)
 
 unfoldable pub field_at : List ℕ → Result (FieldDescription × List ℕ) PgWireError
-field_at = made_at field_of (pair_at text_at (pair_at (int_at w32) (pair_at (int_at w16) (pair_at (nat_at w32) (pair_at (int_at w16) (pair_at (int_at w32) (int_at w16)))))))
+field_at =
+    made_at field_of (pair_at text_at (pair_at (int_at w32)
+    (pair_at (int_at w16) (pair_at (nat_at w32)
+    (pair_at (int_at w16) (pair_at (int_at w32) (int_at w16)))))))
 
 abbrev pub SpellsField : FieldDescription → List ℕ → Type 0
-SpellsField f = Pair SpellsText (Pair (SpellsInt w32) (Pair (SpellsInt w16) (Pair (SpellsNat w32) (Pair (SpellsInt w16) (Pair (SpellsInt w32) (SpellsInt w16)))))) (field_parts f)
+SpellsField f =
+    Pair SpellsText (Pair (SpellsInt w32) (Pair (SpellsInt w16)
+    (Pair (SpellsNat w32) (Pair (SpellsInt w16) (Pair (SpellsInt w32) (SpellsInt w16))))))
+    (field_parts f)
 
 abbrev pub field : FieldDescription → List ℕ
-field f = text f.name ++ i32 f.table_id ++ i16 f.column_id ++ u32 f.type_id ++ i16 f.type_size ++ i32 f.type_modifier ++ i16 f.format_code
+field f =
+    text f.name ++ i32 f.table_id ++ i16 f.column_id ++ u32 f.type_id ++ i16 f.type_size ++ i32
+    f.type_modifier ++ i16 f.format_code
 
 unfoldable pub row_description_of : DecodeContext → List ℕ → Result RowDescription PgWireError
-row_description_of ctx bytes = all_of (made_at (λ fields. record { fields = fields }) (counted_at w16 19 field_at) bytes)
+row_description_of ctx bytes =
+    all_of (made_at (λ fields. record { fields = fields }) (counted_at w16 19 field_at) bytes)
 
 abbrev pub SpellsRowDescription : RowDescription → List ℕ → Type 0
 SpellsRowDescription m = SpellsCounted w16 SpellsField m.fields
@@ -122,7 +154,9 @@ is_refused fields = nat_lt 32767 (length fields) || list_any (λ f. has_zero f.n
 -- ---- DataRow
 
 unfoldable pub data_row_of : DecodeContext → List ℕ → Result DataRow PgWireError
-data_row_of ctx bytes = all_of (made_at (λ p. record { payload = p.1; field_count = p.0 }) (pair_at (int_at w16) rest_at) bytes)
+data_row_of ctx bytes =
+    all_of (made_at (λ p. record { payload = p.1; field_count = p.0 })
+    (pair_at (int_at w16) rest_at) bytes)
 
 abbrev pub SpellsDataRow : DataRow → List ℕ → Type 0
 SpellsDataRow m = Pair (SpellsInt w16) IsRest (m.field_count, m.payload)
@@ -132,8 +166,10 @@ data_row m = i16 m.field_count ++ m.payload
 
 -- ---- ParameterDescription, NoData
 
-unfoldable pub parameter_description_of : DecodeContext → List ℕ → Result ParameterDescription PgWireError
-parameter_description_of ctx bytes = all_of (made_at (λ types. record { types = types }) (counted16_at 4 (nat_at w32)) bytes)
+unfoldable pub parameter_description_of : DecodeContext → List ℕ
+    → Result ParameterDescription PgWireError
+parameter_description_of ctx bytes =
+    all_of (made_at (λ types. record { types = types }) (counted16_at 4 (nat_at w32)) bytes)
 
 abbrev pub SpellsParameterDescription : ParameterDescription → List ℕ → Type 0
 SpellsParameterDescription m = SpellsCounted16 (SpellsNat w32) m.types
@@ -143,11 +179,15 @@ no_data_of ctx bytes = all_of (Ok (record {}, bytes))
 
 -- ---- NotificationResponse
 
-unfoldable pub notification_response_of : DecodeContext → List ℕ → Result NotificationResponse PgWireError
-notification_response_of ctx bytes = all_of (made_at (λ p. record { pid = p.0; channel = p.1.0; payload = p.1.1 }) (pair_at (int_at w32) (pair_at text_at text_at)) bytes)
+unfoldable pub notification_response_of : DecodeContext → List ℕ
+    → Result NotificationResponse PgWireError
+notification_response_of ctx bytes =
+    all_of (made_at (λ p. record { pid = p.0; channel = p.1.0; payload = p.1.1 })
+    (pair_at (int_at w32) (pair_at text_at text_at)) bytes)
 
 abbrev pub SpellsNotificationResponse : NotificationResponse → List ℕ → Type 0
-SpellsNotificationResponse m = Pair (SpellsInt w32) (Pair SpellsText SpellsText) (m.pid, (m.channel, m.payload))
+SpellsNotificationResponse m =
+    Pair (SpellsInt w32) (Pair SpellsText SpellsText) (m.pid, (m.channel, m.payload))
 
 abbrev pub notification_response : NotificationResponse → List ℕ
 notification_response m = i32 m.pid ++ text m.channel ++ text m.payload

@@ -27,13 +27,14 @@ abbrev pub HasNoRow : List ℕ → Type 0
 HasNoRow bytes = (row : DataRow) (g rest : List ℕ) → SpellsRow row g → bytes ≡ g ++ rest → ⊥
 
 -- The rows that `taken` spells were cut off the front of some bytes, and put behind others.
-pub record MovesRows (old new : List DataRow) (old_bytes new_bytes : List ℕ) (count : ℕ) : Type 0 where
-  pub rows : List DataRow
-  pub taken : List ℕ
-  pub spelled : SpellsRows rows taken
-  pub cut : old_bytes ≡ taken ++ new_bytes
-  pub put : new ≡ old ++ rows
-  pub counted : count ≡ length rows
+pub record MovesRows (old new : List DataRow) (old_bytes new_bytes : List ℕ) (count : ℕ) : Type 0
+  where
+    pub rows : List DataRow
+    pub taken : List ℕ
+    pub spelled : SpellsRows rows taken
+    pub cut : old_bytes ≡ taken ++ new_bytes
+    pub put : new ≡ old ++ rows
+    pub counted : count ≡ length rows
 
 -- ---- reading them off
 
@@ -43,7 +44,12 @@ row_end bytes = typed_end bytes
 
 -- the row in it
 abbrev pub row_in : List ℕ → DataRow
-row_in bytes = record { field_count = cast_signed w16 (from_be_bytes w16 (take 2 (drop 5 bytes))); payload = slice_range bytes 7 (row_end bytes) }
+row_in bytes =
+    record {
+      field_count = cast_signed w16 (from_be_bytes w16 (take 2 (drop 5 bytes)));
+      payload =
+          slice_range bytes 7 (row_end bytes);
+    }
 
 -- so many, one behind the other
 abbrev pub rows_in : ℕ → List ℕ → List DataRow

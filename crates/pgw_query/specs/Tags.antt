@@ -36,14 +36,16 @@ counted_tag text command (Some rows) = record { command = command; oid = None; r
 abbrev pub inserted_tag : List ℕ → List ℕ → Option ℕ → Option ℕ → Tag
 inserted_tag text command None rows = plain_tag text
 inserted_tag text command (Some oid) None = plain_tag text
-inserted_tag text command (Some oid) (Some rows) = record { command = command; oid = Some oid; rows = Some rows }
+inserted_tag text command (Some oid) (Some rows) =
+    record { command = command; oid = Some oid; rows = Some rows }
 
 -- a command and its rows, or a command, an object ID and its rows; else the whole text is the command
 abbrev pub tag_by : List ℕ → List (List ℕ) → Tag
 tag_by text [] = plain_tag text
 tag_by text (command ∷ []) = plain_tag text
 tag_by text (command ∷ rows ∷ []) = counted_tag text command (number_in 64 rows)
-tag_by text (command ∷ oid ∷ rows ∷ []) = inserted_tag text command (number_in 32 oid) (number_in 64 rows)
+tag_by text (command ∷ oid ∷ rows ∷ []) =
+    inserted_tag text command (number_in 32 oid) (number_in 64 rows)
 tag_by text (a ∷ b ∷ c ∷ d ∷ more) = plain_tag text
 
 unfoldable pub tag_of : List ℕ → Tag

@@ -13,7 +13,8 @@ held_adds : (x : Option Handle) (b : Book) (h : ℕ) → (held x b h).events ≡
 held_adds None b h = refl
 held_adds (Some x) b h = refl
 
-registered_adds : (p : Option ℕ) (b : Book) (pid : ℤ) (key : List ℕ) → (registered p b pid key).events ≡ b.events + 1
+registered_adds : (p : Option ℕ) (b : Book) (pid : ℤ) (key : List ℕ)
+    → (registered p b pid key).events ≡ b.events + 1
 registered_adds None b pid key = refl
 registered_adds (Some h) b pid key = held_adds (handle_at b h) b h
 

@@ -7,7 +7,8 @@ use Rattle.pgw_registry.specs.declared.numbers.Hand.{Hand}
 use Rattle.pgw_registry.specs.Numbers.{total, times, above}
 
 module _ (f : Hand → ℕ) where
-  pub total_set : (views : List Hand) (i : ℕ) (v w : Hand) → get_elem? views i ≡ some v → total f (set views i w) + f v ≡ total f views + f w
+  pub total_set : (views : List Hand) (i : ℕ) (v w : Hand) → get_elem? views i ≡ some v
+      → total f (set views i w) + f v ≡ total f views + f w
   total_set [] i v w e = absurd (some-ne-none v (sym e))
   total_set (x ∷ xs) zero v w e = let is : f x ≡ f v = ap f (some-injective x v e) in omega arith
   total_set (x ∷ xs) (suc i) v w e = let r = total_set xs i v w e in omega arith
@@ -21,18 +22,25 @@ module _ (f : Hand → ℕ) where
   total_has (x ∷ xs) zero v e = let is : f x ≡ f v = ap f (some-injective x v e) in omega arith
   total_has (x ∷ xs) (suc i) v e = let r = total_has xs i v e in omega arith
 
-  total_none : (views : List Hand) → ((j : ℕ) (u : Hand) → get_elem? views j ≡ some u → f u ≡ 0) → total f views ≡ 0
+  total_none : (views : List Hand) → ((j : ℕ) (u : Hand) → get_elem? views j ≡ some u → f u ≡ 0)
+      → total f views ≡ 0
   total_none [] none = refl
-  total_none (x ∷ xs) none = let a = none 0 x refl in let r = total_none xs (λ j u h. none (suc j) u h) in omega arith
+  total_none (x ∷ xs) none =
+      let a = none 0 x refl in let r = total_none xs (λ j u h. none (suc j) u h) in omega arith
 
   -- the others have none of it
-  pub total_only : (views : List Hand) (i : ℕ) (v : Hand) → get_elem? views i ≡ some v → ((j : ℕ) (u : Hand) → j ≢ i → get_elem? views j ≡ some u → f u ≡ 0) → total f views ≡ f v
+  pub total_only : (views : List Hand) (i : ℕ) (v : Hand) → get_elem? views i ≡ some v
+      → ((j : ℕ) (u : Hand) → j ≢ i → get_elem? views j ≡ some u → f u ≡ 0) → total f views ≡ f v
   total_only [] i v e none = absurd (some-ne-none v (sym e))
   total_only (x ∷ xs) zero v e none = let is : f x ≡ f v = ap f (some-injective x v e) in
       let z = total_none xs (λ j u h. none (suc j) u (λ s. omega arith) h) in omega arith
-  total_only (x ∷ xs) (suc i) v e none = let z = none 0 x (λ s. omega arith) refl in let r = total_only xs i v e (λ j u ne h. none (suc j) u (λ s. ne (omega arith)) h) in omega arith
+  total_only (x ∷ xs) (suc i) v e none =
+      let z =
+      none 0 x (λ s. omega arith) refl in let r =
+      total_only xs i v e (λ j u ne h. none (suc j) u (λ s. ne (omega arith)) h) in omega arith
 
-  pub total_le : (g : Hand → ℕ) (views : List Hand) → ((i : ℕ) (v : Hand) → get_elem? views i ≡ some v → f v ≤ g v) → total f views ≤ total g views
+  pub total_le : (g : Hand → ℕ) (views : List Hand)
+      → ((i : ℕ) (v : Hand) → get_elem? views i ≡ some v → f v ≤ g v) → total f views ≤ total g views
   total_le g [] h = omega arith
   total_le g (x ∷ xs) h = let a = h 0 x refl in let r = total_le g xs (λ i v e. h (suc i) v e) in omega arith
 

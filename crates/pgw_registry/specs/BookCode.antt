@@ -19,7 +19,15 @@ queries_code = map.code coded_ℕ phase.the_row.coded
 abbrev pub book_code : Coded Book
 book_code =
     code_by (PairMap × (ProcessHandles × (QueryPhases × (ℕ × (ℕ × ℕ)))))
-    (coded× pairs_code (coded× handles_code (coded× queries_code (coded× coded_ℕ (coded× coded_ℕ coded_ℕ)))))
+    (coded× pairs_code (coded× handles_code (coded× queries_code
+    (coded× coded_ℕ (coded× coded_ℕ coded_ℕ)))))
     (λ b. (b.pairs, (b.handles, (b.queries, (b.handles_made, (b.queries_made, b.events))))))
-    (λ p. record { pairs = p.0; handles = p.1.0; queries = p.1.1.0; handles_made = p.1.1.1.0; queries_made = p.1.1.1.1.0; events = p.1.1.1.1.1 })
+    (λ p. record {
+      pairs = p.0;
+      handles = p.1.0;
+      queries = p.1.1.0;
+      handles_made = p.1.1.1.0;
+      queries_made = p.1.1.1.1.0;
+      events = p.1.1.1.1.1;
+    })
     (λ _. refl)

@@ -26,7 +26,9 @@ IsNext v n = DrewAll v.begins v.drawn v.share n
 -- Where the numbers are spent, at most one was drawn, which is the one seen, and the whole share has drawn all before it:
 -- so a seat with the whole share that has drawn few is never refused so. Without memory none was drawn
 abbrev pub NoNumber : PidError → Numbers → Numbers → Type 0
-NoNumber PidsExhausted v w = (2147483647 < w.seen) × ((w.drawn ≡ v.drawn) ⊎ (w.drawn ≡ v.drawn ++ w.seen ∷ [])) × IsNext v w.seen
+NoNumber PidsExhausted v w =
+    (2147483647 < w.seen) × ((w.drawn ≡ v.drawn) ⊎ (w.drawn ≡ v.drawn ++ w.seen ∷ []))
+    × IsNext v w.seen
 NoNumber OutOfMemory v w = (w.seen ≤ 2147483647) × (w.drawn ≡ v.drawn)
 
 -- a seat of the same numbers, which has seen as much
@@ -56,9 +58,17 @@ Generates v version words w answer = ContinuesSeat v w × TellsProcessId v versi
 -- where the numbers are spent, at most the one seen was drawn
 abbrev pub NoSeat : PidError → Numbers → Numbers → Type 0
 NoSeat PidsExhausted v w =
-    (2147483647 < w.seen) × (w.share ≡ v.share) × IsNext v w.seen × ((w.drawn ≡ v.drawn) ⊎ (w.drawn ≡ v.drawn ++ w.seen ∷ []))
+    (2147483647 < w.seen) × (w.share ≡ v.share) × IsNext v w.seen
+    × ((w.drawn ≡ v.drawn) ⊎ (w.drawn ≡ v.drawn ++ w.seen ∷ []))
 NoSeat OutOfMemory v w = ⊥
 
 -- the numbers of both
 abbrev pub joint_numbers : Numbers → Numbers → Numbers
-joint_numbers v w = record { of = v.of; begins = v.begins; drawn = v.drawn ++ w.drawn; seen = max v.seen w.seen; share = together v.share w.share }
+joint_numbers v w =
+    record {
+      of = v.of;
+      begins = v.begins;
+      drawn = v.drawn ++ w.drawn;
+      seen = max v.seen w.seen;
+      share = together v.share w.share;
+    }

@@ -31,7 +31,8 @@ held n (x ∷ xs) = eqb x n || held n xs
 -- the places, counted from k, of the calls of these seats
 abbrev pub places_from : ℕ → List ℕ → Log → List ℕ
 places_from k numbers [] = []
-places_from k numbers (e ∷ es) = cond (held e.by numbers) (k ∷ places_from (k + 1) numbers es) (places_from (k + 1) numbers es)
+places_from k numbers (e ∷ es) =
+    cond (held e.by numbers) (k ∷ places_from (k + 1) numbers es) (places_from (k + 1) numbers es)
 
 abbrev pub places : List ℕ → Log → List ℕ
 places numbers log = places_from 0 numbers log
@@ -50,7 +51,18 @@ no_old = old [] []
 
 abbrev pub sight : Log → ℕ → Bool → List ℕ → Share → Old → Old → Bool → Book → Sight
 sight seen own with_process numbers share one two turn state =
-    record { seen = seen; own = own; named = with_process; numbers = numbers; share = share; one = one; two = two; turn = turn; state = state }
+    record {
+      seen = seen;
+      own = own;
+      named = with_process;
+      numbers = numbers;
+      share = share;
+      one =
+          one;
+      two = two;
+      turn = turn;
+      state = state;
+    }
 
 abbrev pub founder : Sight
 founder = sight [] 0 true (0 ∷ []) everything no_old no_old false nothing
@@ -69,11 +81,14 @@ abbrev pub longer : Log → Log → Log
 longer xs ys = cond (leb (length ys) (length xs)) xs ys
 
 abbrev pub both_of : Sight → Sight → Sight
-both_of v w = sight (longer v.seen w.seen) v.own v.named (v.numbers ++ w.numbers) (together v.share w.share) (old v.seen v.numbers) (old w.seen w.numbers) v.turn v.state
+both_of v w =
+    sight (longer v.seen w.seen) v.own v.named (v.numbers ++ w.numbers) (together v.share w.share)
+    (old v.seen v.numbers) (old w.seen w.numbers) v.turn v.state
 
 -- with the turn, the whole history was seen
 abbrev pub holding : Sight → Log → Sight
-holding v log = sight log v.own v.named v.numbers v.share v.one v.two true (state_after nothing log)
+holding v log =
+    sight log v.own v.named v.numbers v.share v.one v.two true (state_after nothing log)
 
 abbrev pub at_rest : Sight → Sight
 at_rest v = sight v.seen v.own v.named v.numbers v.share v.one v.two false v.state
@@ -85,16 +100,20 @@ abbrev pub with_process : Sight → ℕ → Sight
 with_process v n = sight v.seen n true (n ∷ []) v.share v.one v.two v.turn v.state
 
 abbrev pub appended : Sight → Call → Sight
-appended v c = sight (v.seen ++ entry v.own c (reply_of v.state c) ∷ []) v.own v.named v.numbers v.share v.one v.two v.turn (next_book v.state c)
+appended v c =
+    sight (v.seen ++ entry v.own c (reply_of v.state c) ∷ []) v.own v.named v.numbers v.share
+    v.one v.two v.turn (next_book v.state c)
 
 -- no number is among both
 abbrev pub Apart : List ℕ → List ℕ → Type 0
 Apart xs ys = (n : ℕ) → held n xs ≡ true → held n ys ≡ true → ⊥
 
 -- The list is a beginning of the history, and all calls of these numbers, which are of the view `id`, stand in it
-pub record SeesProcessLog (log : Log) (owner : ℕ → math.Option ℕ) (id : ℕ) (seen : Log) (numbers : List ℕ) : Type 0 where
+pub record SeesProcessLog (log : Log) (owner : ℕ → math.Option ℕ) (id : ℕ) (seen : Log)
+    (numbers : List ℕ) : Type 0 where
   pub begins : BeginsLog seen log
-  pub calls : (k : ℕ) (e : Entry) → slice_get log k ≡ Some e → held e.by numbers ≡ true → k < length seen
+  pub calls : (k : ℕ) (e : Entry) → slice_get log k ≡ Some e → held e.by numbers ≡ true
+      → k < length seen
   pub owns : (n : ℕ) → held n numbers ≡ true → owner n ≡ math.some id
 
 -- What the rule says of one view. Whose number is which is said by `owner`
@@ -110,7 +129,8 @@ pub record FitsHistory (log : Log) (owner : ℕ → math.Option ℕ) (id : ℕ) 
 -- There is one legal history. The first word is the number of views with the turn, and the second the length of the history.
 -- While no view has the turn, the slot is at home, with the state after the history. The views share all calls, and each number
 -- that has an owner is among those of its view
-pub record KeepsHistory (words : List ℕ) (homes : List (math.Option (Option Book))) (views : List Sight) : Type 0 where
+pub record KeepsHistory (words : List ℕ) (homes : List (math.Option (Option Book)))
+    (views : List Sight) : Type 0 where
   pub log : Log
   pub owner : ℕ → math.Option ℕ
   pub counts : words ≡ turns views ∷ length log ∷ []
@@ -119,9 +139,11 @@ pub record KeepsHistory (words : List ℕ) (homes : List (math.Option (Option Bo
   pub home : turns views ≡ 0 → homes ≡ math.some (Some (state_after nothing log)) ∷ []
   pub each : (id : ℕ) (v : Sight) → get_elem? views id ≡ math.some v → FitsHistory log owner id v
   pub shares : AddUp (λ (v : Sight). v.share) views
-  pub owned : (n id : ℕ) → owner n ≡ math.some id → (v : Sight) × (get_elem? views id ≡ math.some v) × (held n v.numbers ≡ true)
+  pub owned : (n id : ℕ) → owner n ≡ math.some id
+      → (v : Sight) × (get_elem? views id ≡ math.some v) × (held n v.numbers ≡ true)
   pub beyond : (n : ℕ) → length views ≤ n → owner n ≡ math.none
-  pub unowned : (n : ℕ) → owner n ≡ math.none → (k : ℕ) (e : Entry) → slice_get log k ≡ Some e → e.by ≢ n
+  pub unowned : (n : ℕ) → owner n ≡ math.none → (k : ℕ) (e : Entry) → slice_get log k ≡ Some e
+      → e.by ≢ n
 
 abbrev pub Ruled : State (Option Book) Sight → Type 0
 Ruled s = KeepsHistory s.words s.homes s.views
@@ -141,11 +163,14 @@ abbrev pub HasAll : Share → List ℕ → Log → Type 0
 HasAll share numbers log = IsWholeShare share → length (places numbers log) ≡ length log
 
 abbrev pub Later : Sight → Log → Type 0
-Later v log = Grown v.seen v.numbers log × IsLegal log × HasAll v.share v.numbers log × IsWithinWhole v.share
+Later v log =
+    Grown v.seen v.numbers log × IsLegal log × HasAll v.share v.numbers log
+    × IsWithinWhole v.share
 
 abbrev pub TookLog : Stp → Sat → ℕ → Sat → Type 0
 TookLog s m n w =
-    (n ≡ 0 → (log : Log) × Later m.0 log × (w.0 ≡ holding m.0 log) × (w.1 ≡ (0, Some (state_after nothing log)) ∷ m.1))
+    (n ≡ 0 → (log : Log) × Later m.0 log × (w.0 ≡ holding m.0 log) ×
+    (w.1 ≡ (0, Some (state_after nothing log)) ∷ m.1))
     × (n ≢ 0 → (w.0 ≡ m.0) × (w.1 ≡ m.1))
 
 abbrev pub Left : Stp → Sat → ℕ → Sat → Type 0
@@ -154,10 +179,12 @@ Left s m n w = (w.0 ≡ at_rest m.0) × (w.1 ≡ rest m.1)
 abbrev pub Looked : Stp → Sat → ℕ → Sat → Type 0
 Looked s m n w =
     (log : Log) × Later m.0 log × (w.0 ≡ saw m.0 log) × (w.1 ≡ m.1) × (n ≡ length log)
-    × Grown m.0.one.seen m.0.one.numbers log × Grown m.0.two.seen m.0.two.numbers log × Apart m.0.one.numbers m.0.two.numbers × (m.0.turn ≡ true → log ≡ m.0.seen)
+    × Grown m.0.one.seen m.0.one.numbers log × Grown m.0.two.seen m.0.two.numbers log
+    × Apart m.0.one.numbers m.0.two.numbers × (m.0.turn ≡ true → log ≡ m.0.seen)
 
 abbrev pub NamesProcess : Stp → Sat → ℕ → Sat → Type 0
-NamesProcess s m n w = (by : ℕ) × (w.0 ≡ with_process m.0 by) × (w.1 ≡ m.1) × (places (by ∷ []) m.0.seen ≡ [])
+NamesProcess s m n w =
+    (by : ℕ) × (w.0 ≡ with_process m.0 by) × (w.1 ≡ m.1) × (places (by ∷ []) m.0.seen ≡ [])
 
 abbrev pub AppendsToLog : Call → Stp → Sat → ℕ → Sat → Type 0
 AppendsToLog c s m n w = (w.0 ≡ appended m.0 c) × (w.1 ≡ m.1) × IsLegal w.0.seen

@@ -8,7 +8,8 @@ use Rattle.pgw_types.specs.declared.context.ProtocolVersion.TheVariants.{PROTOCO
 
 -- the first four of the words
 abbrev pub first_four : List ℕ → List ℕ
-first_four words = slice_index words 0 ∷ slice_index words 1 ∷ slice_index words 2 ∷ slice_index words 3 ∷ []
+first_four words =
+    slice_index words 0 ∷ slice_index words 1 ∷ slice_index words 2 ∷ slice_index words 3 ∷ []
 
 -- four bytes at 3.0, as a number with the high byte first, and all bytes at a later version
 abbrev pub process_key : ProtocolVersion → List ℕ → SecretKey

@@ -30,7 +30,9 @@ in_number (Some keys) key = at_key keys.entries key
 
 -- a number that has a map has a key in it
 abbrev pub NoneEmpty : List (ℤ × BTreeMap Key ℕ) → Type 0
-NoneEmpty numbers = (pid : ℤ) (keys : BTreeMap Key ℕ) → lookup (is_at (int_cmp pid)) numbers ≡ Some keys → keys.entries ≢ []
+NoneEmpty numbers =
+    (pid : ℤ) (keys : BTreeMap Key ℕ) → lookup (is_at (int_cmp pid)) numbers ≡ Some keys
+    → keys.entries ≢ []
 
 -- what stands at the number and the key
 unfoldable pub at_pair : List (ℤ × BTreeMap Key ℕ) → ℤ → List ℕ → Option ℕ
@@ -68,4 +70,5 @@ both_flat firsts numbers = flat_firsts firsts ++ flat numbers
 -- what stands at the number and the key, first or among its other keys
 unfoldable pub at_either : List (ℤ × One) → List (ℤ × BTreeMap Key ℕ) → ℤ → List ℕ
     → Option ℕ
-at_either firsts numbers pid key = first_number_of (at_first firsts pid key) (at_pair numbers pid key)
+at_either firsts numbers pid key =
+    first_number_of (at_first firsts pid key) (at_pair numbers pid key)

@@ -35,7 +35,16 @@ abbrev pub weight : Bool → ℕ
 weight b = cond b 1 0
 
 abbrev pub hand : ℕ → List ℕ → ℕ → ℕ → Bool → Share → Hand
-hand begins drawn seen seats owes share = record { begins = begins; drawn = drawn; seen = seen; seats = seats; owes = owes; share = share }
+hand begins drawn seen seats owes share =
+    record {
+      begins = begins;
+      drawn = drawn;
+      seen = seen;
+      seats = seats;
+      owes = owes;
+      share =
+          share;
+    }
 
 -- the first seat, of numbers that begin here
 abbrev pub founder : ℕ → Hand
@@ -55,7 +64,9 @@ with_seat_made v = hand v.begins v.drawn v.seen v.seats false (half v.share)
 
 -- what two seats know together
 abbrev pub both_of : Hand → Hand → Hand
-both_of v w = hand v.begins (v.drawn ++ w.drawn) (max v.seen w.seen) (v.seats + w.seats) (v.owes || w.owes) (together v.share w.share)
+both_of v w =
+    hand v.begins (v.drawn ++ w.drawn) (max v.seen w.seen) (v.seats + w.seats) (v.owes || w.owes)
+    (together v.share w.share)
 
 -- the word was seen
 abbrev pub saw : Hand → ℕ → Hand
@@ -71,7 +82,8 @@ DrewAll begins drawn share n = IsWholeShare share → n ≡ begins + length draw
 
 -- a view without a share has drawn nothing, and the numbers of any other begin at the first
 abbrev pub IsIdleOrBegins : ℕ → Hand → Type 0
-IsIdleOrBegins first v = ((v.share.parts ≡ 0) × (v.drawn ≡ [])) ⊎ ((0 < v.share.parts) × (v.begins ≡ first))
+IsIdleOrBegins first v =
+    ((v.share.parts ≡ 0) × (v.drawn ≡ [])) ⊎ ((0 < v.share.parts) × (v.begins ≡ first))
 
 -- The numbers from the first up to the word are drawn, each once, and no others.
 -- The seats made and the marks set are together at most one more than the process numbers drawn, and no view has more numbers above them than seats. So the word never wraps
@@ -80,7 +92,8 @@ pub record KeepsProcessNumbers (first word : ℕ) (views : List Hand) : Type 0 w
   pub grows : first ≤ word
   pub none : (x : ℕ) → (x < first) ⊎ (word ≤ x) → total (λ v. times x v.drawn) views ≡ 0
   pub once : (x : ℕ) → first ≤ x → x < word → total (λ v. times x v.drawn) views ≡ 1
-  pub each : (i : ℕ) (v : Hand) → get_elem? views i ≡ some v → (v.seen ≤ word) × (above v.drawn ≤ v.seats) × (v.begins ≤ first)
+  pub each : (i : ℕ) (v : Hand) → get_elem? views i ≡ some v
+      → (v.seen ≤ word) × (above v.drawn ≤ v.seats) × (v.begins ≤ first)
   pub seated : total (λ v. v.seats + weight v.owes) views + first ≤ min word 2147483648 + 1
   pub over : total (λ v. above v.drawn) views + 2147483648 ≡ max word 2147483648
   pub counted : total (λ v. length v.drawn) views + first ≡ word
@@ -95,16 +108,25 @@ Sat = Me (Unit {0}) Hand
 
 -- the word was seen. Where it is a process number, so is each number drawn
 abbrev pub Looked : Step (Unit {0}) → Sat → ℕ → Sat → Type 0
-Looked s m n w = (w.0 ≡ saw m.0 n) × (w.1 ≡ m.1) × (m.0.seen ≤ n) × (n ≤ 2147483647 → above m.0.drawn ≡ 0) × DrewAll m.0.begins m.0.drawn m.0.share n
+Looked s m n w =
+    (w.0 ≡ saw m.0 n) × (w.1 ≡ m.1) × (m.0.seen ≤ n) × (n ≤ 2147483647 → above m.0.drawn ≡ 0)
+    × DrewAll m.0.begins m.0.drawn m.0.share n
 
 -- the numbers that it holds were compared
 abbrev pub Compared : Step (Unit {0}) → Sat → ℕ → Sat → Type 0
-Compared s m n w = (w.0 ≡ m.0) × (w.1 ≡ m.1) × IsDistinct m.0.drawn × NoneBelow m.0.begins m.0.drawn
+Compared s m n w =
+    (w.0 ≡ m.0) × (w.1 ≡ m.1) × IsDistinct m.0.drawn × NoneBelow m.0.begins m.0.drawn
 
 -- the number was drawn
 abbrev pub DrewNumber : Step (Unit {0}) → Sat → ℕ → Sat → Type 0
-DrewNumber s m n w = (w.0 ≡ drew m.0 n m.0.owes) × (w.1 ≡ m.1) × (m.0.seen ≤ n) × IsDistinct w.0.drawn × NoneBelow w.0.begins w.0.drawn × (m.0.begins ≤ n) × DrewAll m.0.begins m.0.drawn m.0.share n
+DrewNumber s m n w =
+    (w.0 ≡ drew m.0 n m.0.owes) × (w.1 ≡ m.1) × (m.0.seen ≤ n) × IsDistinct w.0.drawn
+    × NoneBelow w.0.begins w.0.drawn × (m.0.begins ≤ n)
+    × DrewAll m.0.begins m.0.drawn m.0.share n
 
 -- the number was drawn for a seat, which is owed where it is a process number
 abbrev pub DrewForSeat : Step (Unit {0}) → Sat → ℕ → Sat → Type 0
-DrewForSeat s m n w = (w.0 ≡ drew m.0 n (leb n 2147483647)) × (w.1 ≡ m.1) × (m.0.seen ≤ n) × IsDistinct w.0.drawn × NoneBelow w.0.begins w.0.drawn × (m.0.begins ≤ n) × DrewAll m.0.begins m.0.drawn m.0.share n
+DrewForSeat s m n w =
+    (w.0 ≡ drew m.0 n (leb n 2147483647)) × (w.1 ≡ m.1) × (m.0.seen ≤ n) × IsDistinct w.0.drawn
+    × NoneBelow w.0.begins w.0.drawn × (m.0.begins ≤ n)
+    × DrewAll m.0.begins m.0.drawn m.0.share n

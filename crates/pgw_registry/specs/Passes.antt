@@ -43,13 +43,15 @@ IsSamePass v w = (w.of ≡ v.of) × (w.own ≡ v.own) × (w.numbers ≡ v.number
 
 -- no call was made. What was seen is a legal history that begins with what had been seen
 abbrev pub Sees : Known → Known → Type 0
-Sees v w = IsSamePass v w × BeginsLog v.seen w.seen × (mine w ≡ mine v) × IsLegal w.seen × CountsAll w
+Sees v w =
+    IsSamePass v w × BeginsLog v.seen w.seen × (mine w ≡ mine v) × IsLegal w.seen × CountsAll w
 
 -- the call was made, with this reply: it is the last of a legal history that begins with what had been seen, and the one more of its own calls
 abbrev pub Makes : Call → Reply → Known → Known → Type 0
 Makes c r v w =
     IsSamePass v w × IsLegal w.seen
-    × ((before : List Entry) × (length before < 18446744073709551615) × BeginsLog v.seen before × (w.seen ≡ before ++ entry v.own c r ∷ []) × (mine w ≡ mine v ++ length before ∷ []))
+    × ((before : List Entry) × (length before < 18446744073709551615) × BeginsLog v.seen before ×
+    (w.seen ≡ before ++ entry v.own c r ∷ []) × (mine w ≡ mine v ++ length before ∷ []))
     × CountsAll w
 
 -- the table has two words and one slot
@@ -96,7 +98,9 @@ NotLooked look.Exhausted c v w = Full v w
 -- They are w's own calls, and no others are
 abbrev pub TakesInView : Known → Known → Known → Type 0
 TakesInView v u w =
-    (w.of ≡ v.of) × (w.own ≡ v.own) × (w.numbers ≡ v.numbers ++ u.numbers) × (w.share ≡ together v.share u.share) × IsLegal w.seen
+    (w.of ≡ v.of) × (w.own ≡ v.own) × (w.numbers ≡ v.numbers ++ u.numbers)
+    × (w.share ≡ together v.share u.share) × IsLegal w.seen
     × BeginsLog v.seen w.seen × BeginsLog u.seen w.seen
-    × Apart v.numbers u.numbers × (places v.numbers w.seen ≡ mine v) × (places u.numbers w.seen ≡ mine u)
+    × Apart v.numbers u.numbers × (places v.numbers w.seen ≡ mine v)
+    × (places u.numbers w.seen ≡ mine u)
     × (length (mine w) ≡ length (mine v) + length (mine u)) × CountsAll w

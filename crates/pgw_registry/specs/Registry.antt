@@ -57,11 +57,14 @@ LookFails c look.Exhausted b d = IsFull b d
 
 -- each handle has a holder, and no more of them than there were events and one
 abbrev pub FewHolders : ProcessHandles → ℕ → Type 0
-FewHolders hs n = (k : ℕ) (x : Handle) → map.get hs k ≡ Some x → (0 < x.holders) × (x.holders ≤ n + 1)
+FewHolders hs n =
+    (k : ℕ) (x : Handle) → map.get hs k ≡ Some x → (0 < x.holders) × (x.holders ≤ n + 1)
 
 abbrev pub cancel_key_pair : ℤ → List ℕ → Pair
 cancel_key_pair pid key = record { pid = pid; key = key }
 
 -- each pair is the one with which its handle was made
 abbrev pub NamesPairs : PairMap → map.FinMap nat_cmp Pair → ℕ → Type 0
-NamesPairs pairs names made = (pid : ℤ) (key : List ℕ) (h : ℕ) → map.get pairs (pid, key) ≡ Some h → (h ≤ made) × (map.get names h ≡ Some (cancel_key_pair pid key))
+NamesPairs pairs names made =
+    (pid : ℤ) (key : List ℕ) (h : ℕ) → map.get pairs (pid, key) ≡ Some h
+    → (h ≤ made) × (map.get names h ≡ Some (cancel_key_pair pid key))

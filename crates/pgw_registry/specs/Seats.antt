@@ -18,4 +18,6 @@ pub record Numbers : Type 0 where
 
 -- a seat that holds nothing but its view, and owes no seat
 abbrev pub IsSeated : Me (Unit {0}) Hand → Type 0
-IsSeated me = (me.1 ≡ []) × (0 < me.0.seats) × (me.0.owes ≡ false) × IsDistinct me.0.drawn × NoneBelow me.0.begins me.0.drawn × IsSomeShare me.0.share
+IsSeated me =
+    (me.1 ≡ []) × (0 < me.0.seats) × (me.0.owes ≡ false) × IsDistinct me.0.drawn
+    × NoneBelow me.0.begins me.0.drawn × IsSomeShare me.0.share

@@ -30,7 +30,15 @@ pub record Book : Type 0 where
 
 -- the state at the start
 abbrev pub nothing : Book
-nothing = record { pairs = map.empty; handles = map.empty; queries = map.empty; handles_made = 0; queries_made = 0; events = 0 }
+nothing =
+    record {
+      pairs = map.empty;
+      handles = map.empty;
+      queries = map.empty;
+      handles_made = 0;
+      queries_made = 0;
+      events = 0;
+    }
 
 abbrev pub handle : Option ℕ → ℕ → Handle
 handle active holders = record { active = active; holders = holders }
@@ -69,7 +77,12 @@ fired qs q = fired_at (map.get qs q) qs q
 
 abbrev pub held : Option Handle → Book → ℕ → Book
 held None b h = book_with_event b
-held (Some x) b h = record b { handles = map.insert b.handles h (handle x.active (x.holders + 1)); events = b.events + 1 }
+held (Some x) b h =
+    record b {
+      handles = map.insert b.handles h (handle x.active (x.holders + 1));
+      events =
+          b.events + 1;
+    }
 
 abbrev pub registered : Option ℕ → Book → ℤ → List ℕ → Book
 registered (Some h) b pid key = held (handle_at b h) b h
@@ -87,7 +100,13 @@ registered_reply None b = Handled (b.handles_made + 1)
 -- ---- new_handle: a new handle with one holder
 
 abbrev pub with_handle : Book → Book
-with_handle b = record b { handles = map.insert b.handles (b.handles_made + 1) (handle None 1); handles_made = b.handles_made + 1; events = b.events + 1 }
+with_handle b =
+    record b {
+      handles = map.insert b.handles (b.handles_made + 1) (handle None 1);
+      handles_made =
+          b.handles_made + 1;
+      events = b.events + 1;
+    }
 
 -- ---- start_query: a new query waits and is active. The one that was active is replaced, if it waits
 
@@ -108,7 +127,13 @@ started_reply (Some x) b = Started (b.queries_made + 1)
 
 abbrev pub canceled_active : Option ℕ → Handle → Book → ℕ → Book
 canceled_active None x b h = book_with_event b
-canceled_active (Some q) x b h = record b { handles = map.insert b.handles h (handle None x.holders); queries = fired b.queries q; events = b.events + 1 }
+canceled_active (Some q) x b h =
+    record b {
+      handles = map.insert b.handles h (handle None x.holders);
+      queries = fired b.queries
+          q;
+      events = b.events + 1;
+    }
 
 abbrev pub canceled : Option Handle → Book → ℕ → Book
 canceled None b h = book_with_event b
@@ -135,7 +160,8 @@ canceled_pair_reply (Some h) = Canceled true
 -- ---- look: a query that is fired is taken
 
 abbrev pub looked : Option Phase → Book → ℕ → Book
-looked (Some Fired) b q = record b { queries = map.insert b.queries q Taken; events = b.events + 1 }
+looked (Some Fired) b q =
+    record b { queries = map.insert b.queries q Taken; events = b.events + 1 }
 looked (Some Waiting) b q = book_with_event b
 looked (Some Taken) b q = book_with_event b
 looked (Some Replaced) b q = book_with_event b
@@ -158,8 +184,18 @@ finish_query b q = record b { queries = map.remove b.queries q; events = b.event
 abbrev pub let_go : Option Handle → Book → ℕ → Book
 let_go None b h = book_with_event b
 let_go (Some x) b h = cond (eqb x.holders 1)
-    (record b { pairs = without_handle b.pairs h; handles = map.remove b.handles h; queries = replaced b.queries x.active; events = b.events + 1 })
-    (record b { handles = map.insert b.handles h (handle x.active (x.holders - 1)); events = b.events + 1 })
+    (record b {
+      pairs = without_handle b.pairs h;
+      handles = map.remove b.handles h;
+      queries =
+          replaced b.queries x.active;
+      events = b.events + 1;
+    })
+    (record b {
+      handles = map.insert b.handles h (handle x.active (x.holders - 1));
+      events =
+          b.events + 1;
+    })
 
 -- ---- release: the pair is removed, and its handle has one holder fewer
 

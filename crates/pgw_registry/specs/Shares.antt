@@ -38,7 +38,8 @@ module _ {A : Type 0} (share_of : A → Share) where
   -- where the right has k units, the shares of these have n of them together
   abbrev pub HaveUnits : ℕ → ℕ → List A → Type 0
   HaveUnits k n [] = n ≡ 0
-  HaveUnits k n (x ∷ xs) = (m : ℕ) × (rest : ℕ) × (n ≡ m + rest) × HasUnits k m (share_of x) × HaveUnits k rest xs
+  HaveUnits k n (x ∷ xs) =
+      (m : ℕ) × (rest : ℕ) × (n ≡ m + rest) × HasUnits k m (share_of x) × HaveUnits k rest xs
 
   -- together they have the whole right
   pub record AddUp (xs : List A) : Type 0 where

@@ -161,7 +161,8 @@ impl PidSeat {
     ) -> Result<(), PidSeat>
         requires { (self.old.of ≡ generator.now) × (other.of ≡ generator.now) }
         ensures done { IsOk result }
-        ensures ok { IfOk result (λ _. (self.new ≡ joint_numbers self.old other) × IsDistinct self.new.drawn
+        ensures ok { IfOk result (λ _. (self.new ≡ joint_numbers self.old other) ×
+            IsDistinct self.new.drawn
             × NoneBelow self.new.begins self.new.drawn) }
     {
         let PidSeat { place } = other;

@@ -39,21 +39,39 @@ small64 : (z : ℤ) → FitsSigned w64 z → mag z < 2 ^ 63
 small64 (pos n) h = omega (arith, h.sfits)
 small64 (negsuc n) h = omega (arith, h.sfits)
 
-pub shorts : (x : ℤ) → FitsSigned w16 x → IsReadBack types.Int2 (λ z. Some (integer_binary w16 z)) (λ z. Some (signed_decimal z)) (λ ty raw. integer_of_binary w16 (is_int2 ty) ty raw) (λ ty text. integer_of_text w16 (is_int2 ty) ty text) x
+pub shorts : (x : ℤ) → FitsSigned w16 x
+    → IsReadBack types.Int2 (λ z. Some (integer_binary w16 z)) (λ z. Some (signed_decimal z))
+    (λ ty raw. integer_of_binary w16 (is_int2 ty) ty raw)
+    (λ ty text. integer_of_text w16 (is_int2 ty) ty text) x
 shorts x h = record {
-  from_binary = ap (λ (z : ℤ). Some (Ok z)) (ap (cast_signed w16) (from_be_bytes-to_be_bytes_2 (cast_unsigned w16 x) (unsigned16 x h)) ∙ to_z-of_z h);
+  from_binary =
+      ap (λ (z : ℤ). Some (Ok z))
+      (ap (cast_signed w16) (from_be_bytes-to_be_bytes_2 (cast_unsigned w16 x) (unsigned16 x h))
+      ∙ to_z-of_z h);
   from_text = ap (λ (o : Option ℤ). Some (or_bad_text o)) (digits_are_read w16 x h (small16 x h));
 }
 
-pub integers : (x : ℤ) → FitsSigned w32 x → IsReadBack types.Int4 (λ z. Some (integer_binary w32 z)) (λ z. Some (signed_decimal z)) (λ ty raw. integer_of_binary w32 (is_int4 ty) ty raw) (λ ty text. integer_of_text w32 (is_int4 ty) ty text) x
+pub integers : (x : ℤ) → FitsSigned w32 x
+    → IsReadBack types.Int4 (λ z. Some (integer_binary w32 z)) (λ z. Some (signed_decimal z))
+    (λ ty raw. integer_of_binary w32 (is_int4 ty) ty raw)
+    (λ ty text. integer_of_text w32 (is_int4 ty) ty text) x
 integers x h = record {
-  from_binary = ap (λ (z : ℤ). Some (Ok z)) (ap (cast_signed w32) (from_be_bytes-to_be_bytes_4 (cast_unsigned w32 x) (unsigned32 x h)) ∙ to_z-of_z h);
+  from_binary =
+      ap (λ (z : ℤ). Some (Ok z))
+      (ap (cast_signed w32) (from_be_bytes-to_be_bytes_4 (cast_unsigned w32 x) (unsigned32 x h))
+      ∙ to_z-of_z h);
   from_text = ap (λ (o : Option ℤ). Some (or_bad_text o)) (digits_are_read w32 x h (small32 x h));
 }
 
-pub longs : (x : ℤ) → FitsSigned w64 x → IsReadBack types.Int8 (λ z. Some (integer_binary w64 z)) (λ z. Some (signed_decimal z)) (λ ty raw. integer_of_binary w64 (is_int8 ty) ty raw) (λ ty text. integer_of_text w64 (is_int8 ty) ty text) x
+pub longs : (x : ℤ) → FitsSigned w64 x
+    → IsReadBack types.Int8 (λ z. Some (integer_binary w64 z)) (λ z. Some (signed_decimal z))
+    (λ ty raw. integer_of_binary w64 (is_int8 ty) ty raw)
+    (λ ty text. integer_of_text w64 (is_int8 ty) ty text) x
 longs x h = record {
-  from_binary = ap (λ (z : ℤ). Some (Ok z)) (ap (cast_signed w64) (from_be_bytes-to_be_bytes_8 (cast_unsigned w64 x) (unsigned64 x h)) ∙ to_z-of_z h);
+  from_binary =
+      ap (λ (z : ℤ). Some (Ok z))
+      (ap (cast_signed w64) (from_be_bytes-to_be_bytes_8 (cast_unsigned w64 x) (unsigned64 x h))
+      ∙ to_z-of_z h);
   from_text = ap (λ (o : Option ℤ). Some (or_bad_text o)) (digits_are_read w64 x h (small64 x h));
 }
 
@@ -70,7 +88,8 @@ text_held types.Bpchar e = e
 text_held types.Varchar e = e
 text_held (types.Other oid) e = absurd cc
 
-pub texts : (ty : PgType) (x : List ℕ) → is_text ty ≡ true → IsUtf8 x → IsReadBack ty (λ (t : List ℕ). Some t) (λ (t : List ℕ). Some t) row_value_text text_of_text x
+pub texts : (ty : PgType) (x : List ℕ) → is_text ty ≡ true → IsUtf8 x
+    → IsReadBack ty (λ (t : List ℕ). Some t) (λ (t : List ℕ). Some t) row_value_text text_of_text x
 texts ty x is h =
     let utf8 : is_utf8 x ≡ true = is_utf8-from_IsUtf8 x h in
     let held : has_text ty ≡ true = text_held ty is in

@@ -10,10 +10,14 @@ use Rattle.pgw_rows.specs.contracts.result.DataRowsReader as reader
 
 -- the first no longer waits
 abbrev pub LeavesOthers : MutBor WaitingRows → Fml
-LeavesOthers waiting = follows_so reader.the_row reader.the_row waiting.ghost_name none (λ _ _. ⊤) (λ now. now ≡ others_of waiting.now)
+LeavesOthers waiting =
+    follows_so reader.the_row reader.the_row waiting.ghost_name none (λ _ _. ⊤)
+    (λ now. now ≡ others_of waiting.now)
 
 abbrev pub IsRowBehind : Unread → Unread → Type 0
-IsRowBehind old new = IsUnread new × (new.fields ≡ old.fields) × (unread_rows new ≡ drop 1 (unread_rows old))
+IsRowBehind old new =
+    IsUnread new × (new.fields ≡ old.fields) × (unread_rows new ≡ drop 1 (unread_rows old))
 
 abbrev pub LeavesUnread : MutBor Unread → Fml
-LeavesUnread u = follows_so unread.the_row unread.the_row u.ghost_name none (λ _ _. ⊤) (IsRowBehind u.now)
+LeavesUnread u =
+    follows_so unread.the_row unread.the_row u.ghost_name none (λ _ _. ⊤) (IsRowBehind u.now)

@@ -81,26 +81,35 @@ behind_unless result place rest = row_place_behind place rest
 
 -- a call answers what is read of the value at a place, and leaves the place behind it; NULL is none. Where no value
 -- stands it answers so and stays, and so it does where memory is wanting
-abbrev pub AnswersRowRead : {A : Type 0} → Type 0 → (FieldInfo → List ℕ → Result A SqlFault) → Option RowPlaceValue → PlaceInRow → PlaceInRow → Result (Option A) RowError → Type 0
-AnswersRowRead Lacks read None old new result = (result ≡ Err why.DataRowIndexOutOfBounds) × (new ≡ old)
-AnswersRowRead Lacks read (Some (field, (None, rest))) old new result = (result ≡ Ok None) × (new ≡ row_place_behind old rest)
-AnswersRowRead Lacks read (Some (field, (Some raw, rest))) old new result = GivesValue Lacks (some_of (read field raw)) result × (new ≡ behind_unless result old rest)
+abbrev pub AnswersRowRead : {A : Type 0} → Type 0 → (FieldInfo → List ℕ → Result A SqlFault)
+    → Option RowPlaceValue → PlaceInRow → PlaceInRow → Result (Option A) RowError → Type 0
+AnswersRowRead Lacks read None old new result =
+    (result ≡ Err why.DataRowIndexOutOfBounds) × (new ≡ old)
+AnswersRowRead Lacks read (Some (field, (None, rest))) old new result =
+    (result ≡ Ok None) × (new ≡ row_place_behind old rest)
+AnswersRowRead Lacks read (Some (field, (Some raw, rest))) old new result =
+    GivesValue Lacks (some_of (read field raw)) result × (new ≡ behind_unless result old rest)
 
 abbrev pub in_format : {A : Type 0} → FieldFormat → A → A → A
 in_format formats.Binary binary text = binary
 in_format formats.Text binary text = text
 
 -- a column's values are read in its format, as its type
-abbrev pub read_by : {A : Type 0} → (PgType → List ℕ → Result A SqlFault) → (PgType → List ℕ → Result A SqlFault) → FieldInfo → List ℕ → Result A SqlFault
-read_by of_binary of_text field raw = in_format field.format (of_binary field.datatype raw) (of_text field.datatype raw)
+abbrev pub read_by : {A : Type 0} → (PgType → List ℕ → Result A SqlFault)
+    → (PgType → List ℕ → Result A SqlFault) → FieldInfo → List ℕ → Result A SqlFault
+read_by of_binary of_text field raw =
+    in_format field.format (of_binary field.datatype raw) (of_text field.datatype raw)
 
 -- an answer that lends bytes, as those bytes
-abbrev pub lent_row_value : Result (Option (Bor (List ℕ))) RowError → Result (Option (List ℕ)) RowError
+abbrev pub lent_row_value : Result (Option (Bor (List ℕ))) RowError
+    → Result (Option (List ℕ)) RowError
 lent_row_value (Ok bytes) = Ok (option_copied bytes)
 lent_row_value (Err e) = Err e
 
 -- a call lends the value at a place, and leaves the place behind it; NULL is none. Where no value stands it answers so
 -- and stays
-abbrev pub LendsRowValue : Option RowPlaceValue → PlaceInRow → PlaceInRow → Result (Option (List ℕ)) RowError → Type 0
+abbrev pub LendsRowValue : Option RowPlaceValue → PlaceInRow → PlaceInRow
+    → Result (Option (List ℕ)) RowError → Type 0
 LendsRowValue None old new result = (result ≡ Err why.DataRowIndexOutOfBounds) × (new ≡ old)
-LendsRowValue (Some (field, (value, rest))) old new result = (result ≡ Ok value) × (new ≡ row_place_behind old rest)
+LendsRowValue (Some (field, (value, rest))) old new result =
+    (result ≡ Ok value) × (new ≡ row_place_behind old rest)

@@ -17,18 +17,21 @@ IsUnread u = (u.at ≤ length u.bytes) × AreLeft u.left (drop u.at u.bytes) (in
 -- what comes first was looked for
 abbrev pub FindsFirstRow : Unread → Unread → First → Type 0
 FindsFirstRow old new first.Nothing = (unread_rows old ≡ []) × (unread_rows new ≡ [])
-FindsFirstRow old new (first.Alone row) = (unread_rows old ≡ row ∷ unread_rows new) × (new.left ≡ 0)
+FindsFirstRow old new (first.Alone row) =
+    (unread_rows old ≡ row ∷ unread_rows new) × (new.left ≡ 0)
 FindsFirstRow old new first.InRun = (unread_rows new ≡ unread_rows old) × (0 < new.left)
 
 -- the row at a place, whose payload lies there
 abbrev pub row_at : Unread → RowPlace → DataRow
-row_at u place = record { field_count = place.field_count; payload = slice_range u.bytes place.from place.to }
+row_at u place =
+    record { field_count = place.field_count; payload = slice_range u.bytes place.from place.to }
 
 -- the payload of the row that comes first lies there
 pub record IsRowPlace (u : Unread) (place : RowPlace) : Type 0 where
   pub ordered : place.from ≤ place.to
   pub within : place.to ≤ length u.bytes
-  pub rows : unread_rows u ≡ row_at u place ∷ unread_rows (record u { at = place.to; left = u.left - 1 })
+  pub rows : unread_rows u ≡ row_at u place ∷ unread_rows
+      (record u { at = place.to; left = u.left - 1 })
   pub others : IsUnread (record u { at = place.to; left = u.left - 1 })
 
 -- it no longer waits
@@ -44,4 +47,5 @@ IsWithinBytes bytes place = (place.from ≤ place.to) × (place.to ≤ length by
 -- what came first no longer waits, and its payload lies at the place
 abbrev pub TakesFirstRow : Unread → Unread → Option RowPlace → Type 0
 TakesFirstRow old new None = (unread_rows old ≡ []) × (unread_rows new ≡ [])
-TakesFirstRow old new (Some place) = (unread_rows old ≡ row_at new place ∷ unread_rows new) × IsWithinBytes new.bytes place
+TakesFirstRow old new (Some place) =
+    (unread_rows old ≡ row_at new place ∷ unread_rows new) × IsWithinBytes new.bytes place

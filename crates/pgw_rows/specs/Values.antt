@@ -20,7 +20,8 @@ of_type is ty value = if is then value else Err (faults.WrongType ty)
 
 -- another length
 abbrev pub of_length : {A : Type 0} → ℕ → A → List ℕ → Result A SqlFault
-of_length n value raw = if length raw == n then Ok value else Err (faults.WrongLength (length raw))
+of_length n value raw =
+    if length raw == n then Ok value else Err (faults.WrongLength (length raw))
 
 -- a text that stands for no value
 abbrev pub or_bad_text : {A : Type 0} → Option A → Result A SqlFault
@@ -66,10 +67,13 @@ is_within w (negsuc n) = nat_lt n (2 ^ hbits w)
 unfoldable pub integer_in : Width → List ℕ → Option ℤ
 integer_in w text =
     let digits = without_leading_sign text in
-    if nat_lt 0 (length digits) && (all_ascii_digits digits && is_within w (signed_digits_value 10 text)) then Some (signed_digits_value 10 text) else None
+    if nat_lt 0 (length digits) &&
+    (all_ascii_digits digits && is_within w (signed_digits_value 10 text)) then Some
+    (signed_digits_value 10 text) else None
 
 abbrev pub integer_of_binary : Width → Bool → PgType → List ℕ → Result ℤ SqlFault
-integer_of_binary w is ty raw = of_type is ty (of_length (byte_len w) (cast_signed w (from_be_bytes w raw)) raw)
+integer_of_binary w is ty raw =
+    of_type is ty (of_length (byte_len w) (cast_signed w (from_be_bytes w raw)) raw)
 
 abbrev pub integer_of_text : Width → Bool → PgType → List ℕ → Result ℤ SqlFault
 integer_of_text w is ty text = of_type is ty (or_bad_text (integer_in w text))
@@ -94,7 +98,9 @@ row_value_text ty raw = of_type (is_text ty) ty (or_bad_text (value_text raw))
 -- real and double precision (8.1.3), date, time, timestamp without and with time zone, interval (8.5), numeric (8.1.2),
 -- uuid (8.12) and jsonb (8.14)
 abbrev pub is_written_out : ℕ → Bool
-is_written_out oid = list_any (λ number. number == oid) (114 ∷ 700 ∷ 701 ∷ 1082 ∷ 1083 ∷ 1114 ∷ 1184 ∷ 1186 ∷ 1700 ∷ 2950 ∷ 3802 ∷ [])
+is_written_out oid =
+    list_any (λ number. number == oid)
+    (114 ∷ 700 ∷ 701 ∷ 1082 ∷ 1083 ∷ 1114 ∷ 1184 ∷ 1186 ∷ 1700 ∷ 2950 ∷ 3802 ∷ [])
 
 abbrev pub has_text : PgType → Bool
 has_text (types.Other oid) = is_written_out oid
@@ -110,7 +116,9 @@ is_bytea types.Bytea = true
 is_bytea ty = false
 
 abbrev pub octets_in : List ℕ → Option (List ℕ)
-octets_in text = if slice_index text 0 == 92 && slice_index text 1 == 120 then result_ok (decode_of (drop 2 text)) else None
+octets_in text =
+    if slice_index text 0 == 92 && slice_index text 1 == 120 then result_ok
+    (decode_of (drop 2 text)) else None
 
 abbrev pub octets_of_binary : PgType → List ℕ → Result (List ℕ) SqlFault
 octets_of_binary ty raw = of_type (is_bytea ty) ty (Ok raw)

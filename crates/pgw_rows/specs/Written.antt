@@ -48,10 +48,12 @@ abbrev pub text_parameter : PgType → Option (List ℕ) → Parameter
 text_parameter ty value = record { type_oid = oid_of ty; format = formats.Text; value = value }
 
 abbrev pub binary_parameter : PgType → Option (List ℕ) → Parameter
-binary_parameter ty value = record { type_oid = oid_of ty; format = formats.Binary; value = value }
+binary_parameter ty value =
+    record { type_oid = oid_of ty; format = formats.Binary; value = value }
 
 -- ---- a value that is written is read as itself, in either form
 
-pub record IsReadBack {A : Type 0} (ty : PgType) (binary text : A → Option (List ℕ)) (of_binary of_text : PgType → List ℕ → Result A SqlFault) (x : A) : Type 0 where
+pub record IsReadBack {A : Type 0} (ty : PgType) (binary text : A → Option (List ℕ))
+    (of_binary of_text : PgType → List ℕ → Result A SqlFault) (x : A) : Type 0 where
   pub from_binary : option_map (of_binary ty) (binary x) ≡ Some (Ok x)
   pub from_text : option_map (of_text ty) (text x) ≡ Some (Ok x)

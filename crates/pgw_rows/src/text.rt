@@ -49,7 +49,8 @@ fn has_text(ty: &PgType) -> bool
 
 // The text, of a type that holds it.
 fn read(alloc: Global, ty: &PgType, holds: bool, raw: &[u8]) -> RowResult<Text>
-    ensures { GivesValue (Unit {0}) (of_type holds ty.now (or_bad_text (value_text raw.now))) result }
+    ensures { GivesValue (Unit {0}) (of_type holds ty.now (or_bad_text (value_text raw.now)))
+        result }
 {
     if holds {
         return utf8_in(alloc, raw);

@@ -33,15 +33,23 @@ value_append xs ys h k = list_all-append (λ b. not (b == 44)) xs ys ∙ and_fro
 symbol_at : (table : List ℕ) (i : ℕ) → IsValue table → not (get_or table i 0 == 44) ≡ true
 symbol_at [] i h = refl
 symbol_at (x ∷ table) zero h = (and_parts (not (x == 44)) (list_all (λ b. not (b == 44)) table) h).0
-symbol_at (x ∷ table) (suc i) h = symbol_at table i (and_parts (not (x == 44)) (list_all (λ b. not (b == 44)) table) h).1
+symbol_at (x ∷ table) (suc i) h =
+    symbol_at table i (and_parts (not (x == 44)) (list_all (λ b. not (b == 44)) table) h).1
 
 symbols_value : (table message : List ℕ) → IsValue table → IsValue (encode_symbols table message)
 unfolding encode_symbols
 symbols_value table [] h = refl
 symbols_value table (a ∷ []) h = rw (symbol_at table (a / 4) h, symbol_at table (a % 4 * 16) h) refl
-symbols_value table (a ∷ b ∷ []) h = rw (symbol_at table (a / 4) h, symbol_at table (a % 4 * 16 + b / 16) h, symbol_at table (b % 16 * 4) h) refl
+symbols_value table (a ∷ b ∷ []) h =
+    rw (symbol_at table (a / 4) h, symbol_at table (a % 4 * 16 + b / 16) h, symbol_at table (b % 16 * 4) h) refl
 symbols_value table (a ∷ b ∷ c ∷ rest) h =
-    rw (symbol_at table (a / 4) h, symbol_at table (a % 4 * 16 + b / 16) h, symbol_at table (b % 16 * 4 + c / 64) h, symbol_at table (c % 64) h) (symbols_value table rest h)
+    rw (
+      symbol_at table (a / 4) h,
+      symbol_at table (a % 4 * 16 + b / 16) h,
+      symbol_at table (b % 16 * 4 + c / 64)
+          h,
+      symbol_at table (c % 64) h,
+    ) (symbols_value table rest h)
 
 padding_value : (n : ℕ) → IsValue (replicate n 61)
 padding_value zero = refl
@@ -49,7 +57,9 @@ padding_value (suc n) = padding_value n
 
 pub base64_value : (bytes : List ℕ) → IsValue (base64 bytes)
 unfolding base64
-base64_value bytes = value_append (encode_symbols (engine_symbols standard) bytes) (replicate (padding_len (length bytes)) 61) (symbols_value (engine_symbols standard) bytes refl) (padding_value (padding_len (length bytes)))
+base64_value bytes =
+    value_append (encode_symbols (engine_symbols standard) bytes) (replicate (padding_len (length bytes)) 61)
+    (symbols_value (engine_symbols standard) bytes refl) (padding_value (padding_len (length bytes)))
 
 pub base64_utf8 : (bytes : List ℕ) → IsUtf8 (base64 bytes)
 unfolding base64

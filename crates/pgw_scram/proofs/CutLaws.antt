@@ -15,12 +15,17 @@ use Rattle.pgw_scram.proofs.AttributeLaws.{cut_of, no_comma, cut_last_of, behind
 
 value_from : (text : List ℕ) → ((i : ℕ) → i < length text → get_or text i 0 ≢ 44) → IsValue text
 value_from text none =
-    let all : AllPass (λ b. not (b == 44)) text = λ k d within. not_from_false _ (ne_eqb (get_or text k d) 44 (λ is. none k within (sym (get_or_default_zero text k d within) ∙ is))) in
+    let all : AllPass (λ b. not (b == 44)) text =
+    λ k d within. not_from_false _
+    (ne_eqb (get_or text k d) 44 (λ is. none k within (sym (get_or_default_zero text k d within)
+    ∙ is))) in
     list_all-from_AllPass (λ b. not (b == 44)) text all
 
 -- at the first comma
-pub cuts : (text : List ℕ) (r : Option (Bor (List ℕ) × Bor (List ℕ))) → IsSplitOnceResult 44 text r → MatchOption r (cut text ≡ (text, None)) (λ x. cut text ≡ (x.0.now, Some x.1.now))
-cuts text None h = ap cut (sym (append-nil text)) ∙ cut_of text None (value_from text (split_parts 44 text None h (lit< tt)))
+pub cuts : (text : List ℕ) (r : Option (Bor (List ℕ) × Bor (List ℕ))) → IsSplitOnceResult 44 text r
+    → MatchOption r (cut text ≡ (text, None)) (λ x. cut text ≡ (x.0.now, Some x.1.now))
+cuts text None h =
+    ap cut (sym (append-nil text)) ∙ cut_of text None (value_from text (split_parts 44 text None h (lit< tt)))
 cuts text (Some x) h =
     let parts = split_parts 44 text (Some x) h (lit< tt) in
     ap cut parts.0 ∙ cut_of x.0.now (Some x.1.now) (value_from x.0.now parts.1)
@@ -29,7 +34,9 @@ no_char : (text : List ℕ) → NoCharPasses (λ d. d == 44) text → IsValue te
 no_char text none = value_from text (λ i within. NoCharPasses-char 44 text i none (lit< tt) within)
 
 -- at the last comma
-pub cuts_last : (text : List ℕ) (r : Option (Bor (List ℕ) × Bor (List ℕ))) → MatchOption r (RFindsChar 44 text None) (λ x. SplitsAroundMatch (RFindsChar 44) text x.0.now x.1.now) → option_map (λ x. (x.0.now, x.1.now)) r ≡ cut_last text
+pub cuts_last : (text : List ℕ) (r : Option (Bor (List ℕ) × Bor (List ℕ)))
+    → MatchOption r (RFindsChar 44 text None) (λ x. SplitsAroundMatch (RFindsChar 44) text x.0.now x.1.now)
+    → option_map (λ x. (x.0.now, x.1.now)) r ≡ cut_last text
 cuts_last text None h = sym (no_comma text (no_char text h))
 cuts_last text (Some x) (i, j, (none, at), front, back, ordered, length_front, length_back) =
     let comma : drop i text ≡ 44 ∷ drop j text = drop_at_char 44 text i j at (lit< tt) in
@@ -37,12 +44,15 @@ cuts_last text (Some x) (i, j, (none, at), front, back, ordered, length_front, l
     let value : IsValue x.1.now = rw back (no_char (drop j text) none) in
     sym (ap cut_last whole ∙ cut_last_of x.0.now x.1.now value)
 
-lacks : (name text : List ℕ) (found : Option (List ℕ)) → behind_name name text ≡ found → ((rest : List ℕ) → text ≢ name ++ rest) → behind_name name text ≡ None
+lacks : (name text : List ℕ) (found : Option (List ℕ)) → behind_name name text ≡ found
+    → ((rest : List ℕ) → text ≢ name ++ rest) → behind_name name text ≡ None
 lacks name text None e none = e
 lacks name text (Some rest) e none = absurd (none rest (behind_name_is name text rest e))
 
 -- behind a name
-pub strips : (name text : List ℕ) (r : Option (Bor (List ℕ))) → MatchOption r (FindsTextPrefix name text None) (λ x. StripsPrefix (FindsTextPrefix name) text x.now) → option_copied r ≡ behind_name name text
+pub strips : (name text : List ℕ) (r : Option (Bor (List ℕ)))
+    → MatchOption r (FindsTextPrefix name text None) (λ x. StripsPrefix (FindsTextPrefix name) text x.now)
+    → option_copied r ≡ behind_name name text
 strips name text None h = sym (lacks name text (behind_name name text) refl h)
 strips name text (Some x) (n, (is_length, whole, boundary), rest, lengths) =
     let same : text ≡ name ++ x.now = rw rest whole in

@@ -28,10 +28,13 @@ one : number_in 32 (codes "1") ≡ Some 1
 unfolding number_in
 one = refl
 
-pub least_is_read : (nonce : List ℕ) → IsValue nonce → IsUtf8 nonce → read_server_first (least_server_first nonce) ≡ Ok (record { nonce = nonce; salt = []; count = 1 })
+pub least_is_read : (nonce : List ℕ) → IsValue nonce → IsUtf8 nonce
+    → read_server_first (least_server_first nonce) ≡ Ok (record { nonce = nonce; salt = []; count = 1 })
 least_is_read nonce value utf8 =
     let is : IsServerFirst (least_server_first nonce) (record { nonce = nonce; salt = []; count = 1 }) = record {
-      utf8 = IsUtf8-append (codes "r=" ++ nonce) (codes ",s=,i=1") (IsUtf8-append (codes "r=") nonce (ascii_utf8 (codes "r=") refl) utf8) (ascii_utf8 (codes ",s=,i=1") refl);
+      utf8 = IsUtf8-append (codes "r=" ++ nonce) (codes ",s=,i=1")
+          (IsUtf8-append (codes "r=") nonce (ascii_utf8 (codes "r=") refl) utf8)
+          (ascii_utf8 (codes ",s=,i=1") refl);
       count = codes "1";
       written = record {
         body = least_server_first nonce;
@@ -48,35 +51,49 @@ least_is_read nonce value utf8 =
     server_first_only (least_server_first nonce) (Ok (record { nonce = nonce; salt = []; count = 1 })) is
 
 -- some server-first is accepted for every nonce
-pub nonce_is_read : (bytes : List ℕ) → read_server_first (least_server_first (nonce_text bytes)) ≡ Ok (record { nonce = nonce_text bytes; salt = []; count = 1 })
+pub nonce_is_read : (bytes : List ℕ)
+    → read_server_first (least_server_first (nonce_text bytes)) ≡ Ok
+    (record { nonce = nonce_text bytes; salt = []; count = 1 })
 nonce_is_read bytes = least_is_read (nonce_text bytes) (base64_value bytes) (base64_utf8 bytes)
 
 -- ---- server-final
 
-pub verifier_is_read : (text : List ℕ) → IsValue text → IsUtf8 text → read_server_final (codes "v=" ++ text) ≡ Ok (Signature text)
+pub verifier_is_read : (text : List ℕ) → IsValue text → IsUtf8 text
+    → read_server_final (codes "v=" ++ text) ≡ Ok (Signature text)
 verifier_is_read text value utf8 =
-    ap (λ (l : List ℕ). read_server_final (codes "v=" ++ l)) (sym (append-nil text)) ∙ server_final_of text None value (IsUtf8-append (codes "v=") (text ++ []) (ascii_utf8 (codes "v=") refl) (IsUtf8-append text [] utf8 IsUtf8-nil))
+    ap (λ (l : List ℕ). read_server_final (codes "v=" ++ l)) (sym (append-nil text))
+    ∙ server_final_of text None value
+    (IsUtf8-append (codes "v=") (text ++ []) (ascii_utf8 (codes "v=") refl)
+    (IsUtf8-append text [] utf8 IsUtf8-nil))
 
 -- ---- the signature that a client expects
 
 abbrev IsText : List ℕ → Type 0
 IsText text = IsValue text × IsUtf8 text
 
-with_salt_text : (salt : Option (List ℕ)) (made : List ℕ → List ℕ) → ((bytes : List ℕ) → IsText (base64 (made bytes))) → IsText (with_salt salt (λ bytes. base64 (made bytes)))
+with_salt_text : (salt : Option (List ℕ)) (made : List ℕ → List ℕ)
+    → ((bytes : List ℕ) → IsText (base64 (made bytes))) → IsText (with_salt salt (λ bytes. base64 (made bytes)))
 with_salt_text None made h = (refl, IsUtf8-nil)
 with_salt_text (Some bytes) made h = h bytes
 
-with_parts_text : (reading : Result ServerFirst ScramMessageFault) (made : ServerFirst → List ℕ → List ℕ) → IsText (with_parts reading (λ parts salt. base64 (made parts salt)))
+with_parts_text : (reading : Result ServerFirst ScramMessageFault) (made : ServerFirst → List ℕ → List ℕ)
+    → IsText (with_parts reading (λ parts salt. base64 (made parts salt)))
 with_parts_text (Err why) made = (refl, IsUtf8-nil)
-with_parts_text (Ok parts) made = with_salt_text (salt_of parts.salt) (made parts) (λ bytes. (base64_value (made parts bytes), base64_utf8 (made parts bytes)))
+with_parts_text (Ok parts) made =
+    with_salt_text (salt_of parts.salt) (made parts)
+    (λ bytes. (base64_value (made parts bytes), base64_utf8 (made parts bytes)))
 
-pub signature_text : (login : ClientLogin) (first : List ℕ) → IsValue (signature login first) × IsUtf8 (signature login first)
+pub signature_text : (login : ClientLogin) (first : List ℕ)
+    → IsValue (signature login first) × IsUtf8 (signature login first)
 unfolding signature
 signature_text login first =
-    with_parts_text (read_server_first first) (λ parts salt. server_signature (salted_password login.password salt parts.count) (exchanged login first parts))
+    with_parts_text (read_server_first first)
+    (λ parts salt. server_signature (salted_password login.password salt parts.count)
+    (exchanged login first parts))
 
 -- some server-final is accepted for every signature
-pub signature_is_read : (login : ClientLogin) (first : List ℕ) → read_server_final (codes "v=" ++ signature login first) ≡ Ok (Signature (signature login first))
+pub signature_is_read : (login : ClientLogin) (first : List ℕ)
+    → read_server_final (codes "v=" ++ signature login first) ≡ Ok (Signature (signature login first))
 signature_is_read login first =
     let text = signature_text login first in
     verifier_is_read (signature login first) text.0 text.1

@@ -12,7 +12,8 @@ IsScramAnswer (Ok x) answer = answer ≡ Ok x
 IsScramAnswer (Err e) answer = e ≢ OutOfMemory → answer ≡ Err e
 
 -- the same of a client
-abbrev pub AnswersClient : {A : Type 0} → Result A ScramClientError → Result A ScramClientError → Type 0
+abbrev pub AnswersClient : {A : Type 0} → Result A ScramClientError → Result A ScramClientError
+    → Type 0
 AnswersClient (Ok x) answer = answer ≡ Ok x
 AnswersClient (Err e) answer = e ≢ client.OutOfMemory → answer ≡ Err e
 

@@ -24,7 +24,9 @@ without_proof binding nonce = codes "c=" ++ binding_text binding ++ codes ",r=" 
 
 -- what both ends authenticate
 abbrev pub exchanged : ClientLogin → List ℕ → ServerFirst → List ℕ
-exchanged login first parts = auth_message (client_first_bare login.user login.nonce) first (without_proof login.binding parts.nonce)
+exchanged login first parts =
+    auth_message (client_first_bare login.user login.nonce) first
+    (without_proof login.binding parts.nonce)
 
 -- what is made of the salt's bytes, or nothing
 abbrev pub with_salt : Option (List ℕ) → (List ℕ → List ℕ) → List ℕ
@@ -32,16 +34,23 @@ with_salt None made = []
 with_salt (Some salt) made = made salt
 
 -- what is made of the parts of server-first and its salt's bytes, or nothing
-abbrev pub with_parts : Result ServerFirst ScramMessageFault → (ServerFirst → List ℕ → List ℕ) → List ℕ
+abbrev pub with_parts : Result ServerFirst ScramMessageFault → (ServerFirst → List ℕ → List ℕ)
+    → List ℕ
 with_parts (Err why) made = []
 with_parts (Ok parts) made = with_salt (salt_of parts.salt) (made parts)
 
 -- client-final-message, of a login and server-first
 unfoldable pub client_final : ClientLogin → List ℕ → List ℕ
 client_final login first =
-    with_parts (read_server_first first) (λ parts salt. without_proof login.binding parts.nonce ++ codes ",p=" ++ base64 (client_proof (salted_password login.password salt parts.count) (exchanged login first parts)))
+    with_parts (read_server_first first)
+    (λ parts salt. without_proof login.binding parts.nonce ++ codes ",p=" ++ base64
+    (client_proof (salted_password login.password salt parts.count)
+    (exchanged login first parts)))
 
 -- the text of the signature that server-final should have, of the same
 unfoldable pub signature : ClientLogin → List ℕ → List ℕ
 signature login first =
-    with_parts (read_server_first first) (λ parts salt. base64 (server_signature (salted_password login.password salt parts.count) (exchanged login first parts)))
+    with_parts (read_server_first first)
+    (λ parts salt. base64
+    (server_signature (salted_password login.password salt parts.count)
+    (exchanged login first parts)))

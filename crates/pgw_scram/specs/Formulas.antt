@@ -19,7 +19,8 @@ server_key salted_password = hmac_sha256 salted_password (codes "Server Key")
 
 -- AuthMessage := client-first-message-bare + "," + server-first-message + "," + client-final-message-without-proof
 abbrev pub auth_message : List ℕ → List ℕ → List ℕ → List ℕ
-auth_message client_first_bare server_first without_proof = client_first_bare ++ codes "," ++ server_first ++ codes "," ++ without_proof
+auth_message client_first_bare server_first without_proof =
+    client_first_bare ++ codes "," ++ server_first ++ codes "," ++ without_proof
 
 -- ClientSignature := HMAC(StoredKey, AuthMessage)
 abbrev pub client_signature : List ℕ → List ℕ → List ℕ
@@ -27,7 +28,8 @@ client_signature stored_key auth_message = hmac_sha256 stored_key auth_message
 
 -- ClientProof := ClientKey XOR ClientSignature, by the ClientKey
 abbrev pub proof_by : List ℕ → List ℕ → List ℕ
-proof_by client_key auth_message = xor client_key (client_signature (stored_key client_key) auth_message)
+proof_by client_key auth_message =
+    xor client_key (client_signature (stored_key client_key) auth_message)
 
 -- the same, by the SaltedPassword
 unfoldable pub client_proof : List ℕ → List ℕ → List ℕ
@@ -39,4 +41,5 @@ signature_by server_key auth_message = hmac_sha256 server_key auth_message
 
 -- the same, by the SaltedPassword
 unfoldable pub server_signature : List ℕ → List ℕ → List ℕ
-server_signature salted_password auth_message = signature_by (server_key salted_password) auth_message
+server_signature salted_password auth_message =
+    signature_by (server_key salted_password) auth_message

@@ -29,7 +29,8 @@ Agree (binding.EndPoint own) hash = hash ≡ Some own
 
 -- the ends agree on what is bound, the user name, which is UTF-8 as each text is, has a prepared form without a comma,
 -- and the server keeps the SaltedPassword of the client's password
-pub record AreHonest (client : ScramClientAuth) (server : ScramServerAuth) (password : Password) : Type 0 where
+pub record AreHonest (client : ScramClientAuth) (server : ScramServerAuth) (password : Password) :
+    Type 0 where
   pub user : List ℕ
   pub salt : List ℕ
   pub agree : Agree client.binding server.certificate_hash
@@ -43,7 +44,8 @@ pub record AreHonest (client : ScramClientAuth) (server : ScramServerAuth) (pass
   pub in_32_bits : server.iterations < 2 ^ 32
 
 -- each end takes what the other sends, up to the server's last message
-pub record BothAccept (client : ScramClientAuth) (server : ScramServerAuth) (password : Password) (client_nonce server_nonce : List ℕ) : Type 0 where
+pub record BothAccept (client : ScramClientAuth) (server : ScramServerAuth) (password : Password)
+    (client_nonce server_nonce : List ℕ) : Type 0 where
   pub client_first : List ℕ
   pub client_began : ScramClientAuthWaitingForServerFirst
   pub server_first : List ℕ
@@ -52,13 +54,15 @@ pub record BothAccept (client : ScramClientAuth) (server : ScramServerAuth) (pas
   pub client_proved : ScramClientAuthWaitingForServerFinal
   pub server_final : List ℕ
   pub begins : began client client_nonce ≡ Ok (client_first, client_began)
-  pub offers : scram_offer server client_first password server_nonce ≡ Ok (server_first, server_offered)
+  pub offers : scram_offer server client_first password server_nonce ≡ Ok
+      (server_first, server_offered)
   pub proves : proved client_began server_first ≡ Ok (client_final, client_proved)
   pub accepts : accepted server_offered client_final ≡ Ok server_final
   pub verifies : verified client_proved server_final ≡ Ok tt
 
 -- a server has let a client in, by its first message and its last
-pub record LetsIn (server : ScramServerAuth) (password : Password) (nonce client_first client_final : List ℕ) : Type 0 where
+pub record LetsIn (server : ScramServerAuth) (password : Password)
+    (nonce client_first client_final : List ℕ) : Type 0 where
   pub first : ClientFirst
   pub answer : ClientFinal
   pub server_first : List ℕ
@@ -71,4 +75,5 @@ pub record LetsIn (server : ScramServerAuth) (password : Password) (nonce client
 
 -- the client names the server's certificate, and has bound its login to this hash of it
 abbrev pub BoundTo : List ℕ → ClientFirst → ClientFinal → Type 0
-BoundTo hash first answer = (names_end_point first.header ≡ true) × (answer.binding ≡ base64 (first.header ++ hash))
+BoundTo hash first answer =
+    (names_end_point first.header ≡ true) × (answer.binding ≡ base64 (first.header ++ hash))

@@ -14,7 +14,8 @@ use Rattle.pgw_scram.specs.declared.messages.ServerFinal.TheVariants.{Signature,
 -- [reserved-mext ","]: what a text is behind one, if it has one
 pub data SkipsMext : List ℕ → List ℕ → Type 0 where
   without : {text : List ℕ} → SkipsMext text text
-  with : {text rest : List ℕ} (value : List ℕ) → text ≡ attribute (codes "m=") value (Some rest) → IsValue value → SkipsMext text rest
+  with : {text rest : List ℕ} (value : List ℕ) → text ≡ attribute (codes "m=") value (Some rest)
+      → IsValue value → SkipsMext text rest
 
 -- ---- client-first-message
 
@@ -27,7 +28,8 @@ pub data IsFlag : List ℕ → Type 0 where
 -- [ authzid ]
 pub data IsAuthzid : List ℕ → Type 0 where
   without_id : IsAuthzid []
-  with_id : {text : List ℕ} (name : List ℕ) → text ≡ codes "a=" ++ name → IsValue name → IsAuthzid text
+  with_id : {text : List ℕ} (name : List ℕ) → text ≡ codes "a=" ++ name → IsValue name
+      → IsAuthzid text
 
 -- gs2-header = gs2-cbind-flag "," [ authzid ] ","
 pub record IsHeader (header : List ℕ) : Type 0 where
@@ -60,7 +62,8 @@ pub record HasServerFirst (message nonce salt count : List ℕ) : Type 0 where
   pub body : List ℕ
   pub more : Option (List ℕ)
   pub skips : SkipsMext message body
-  pub written : body ≡ attribute (codes "r=") nonce (Some (attribute (codes "s=") salt (Some (attribute (codes "i=") count more))))
+  pub written : body ≡ attribute (codes "r=") nonce
+      (Some (attribute (codes "s=") salt (Some (attribute (codes "i=") count more))))
   pub nonce_value : IsValue nonce
   pub salt_value : IsValue salt
   pub count_value : IsValue count
@@ -102,20 +105,27 @@ pub record IsClientFinal (message : List ℕ) (parts : ClientFinal) : Type 0 whe
 
 -- (server-error / verifier) ["," extensions]
 pub data IsServerFinal : List ℕ → ServerFinal → Type 0 where
-  verifier : {message value : List ℕ} (more : Option (List ℕ)) → IsUtf8 message → message ≡ attribute (codes "v=") value more → IsValue value → IsServerFinal message (Signature value)
-  server_error : {message value : List ℕ} (more : Option (List ℕ)) → IsUtf8 message → message ≡ attribute (codes "e=") value more → IsValue value → IsServerFinal message (Failed value)
+  verifier : {message value : List ℕ} (more : Option (List ℕ)) → IsUtf8 message
+      → message ≡ attribute (codes "v=") value more → IsValue value
+      → IsServerFinal message (Signature value)
+  server_error : {message value : List ℕ} (more : Option (List ℕ)) → IsUtf8 message
+      → message ≡ attribute (codes "e=") value more → IsValue value
+      → IsServerFinal message (Failed value)
 
 -- ---- what a reader answers
 
 -- the parts, or why there are none
-abbrev pub IsScramReading : {A : Type 0} → (List ℕ → A → Type 0) → List ℕ → Result A ScramMessageFault → Type 0
+abbrev pub IsScramReading : {A : Type 0} → (List ℕ → A → Type 0) → List ℕ
+    → Result A ScramMessageFault → Type 0
 IsScramReading Is message (Ok parts) = Is message parts
 IsScramReading Is message (Err fault.NotUtf8) = IsUtf8 message → ⊥
-IsScramReading {A} Is message (Err fault.Grammar) = IsUtf8 message × ((parts : A) → Is message parts → ⊥)
+IsScramReading {A} Is message (Err fault.Grammar) =
+    IsUtf8 message × ((parts : A) → Is message parts → ⊥)
 IsScramReading Is message (Err other) = ⊥
 
 -- the same of server-first, where the form may be right and the count none
 abbrev pub IsServerFirstReading : List ℕ → Result ServerFirst ScramMessageFault → Type 0
 IsServerFirstReading message (Err fault.Count) = HasNoCount message
-IsServerFirstReading message (Err fault.Grammar) = IsUtf8 message × ((nonce salt count : List ℕ) → HasServerFirst message nonce salt count → ⊥)
+IsServerFirstReading message (Err fault.Grammar) =
+    IsUtf8 message × ((nonce salt count : List ℕ) → HasServerFirst message nonce salt count → ⊥)
 IsServerFirstReading message reading = IsScramReading IsServerFirst message reading

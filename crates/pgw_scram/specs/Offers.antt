@@ -20,7 +20,8 @@ use Rattle.pgw_scram.specs.Refusals.{begins_with}
 
 -- server-first-message, of the whole nonce, the salt's bytes and the count
 abbrev pub server_first : List ℕ → List ℕ → ℕ → List ℕ
-server_first nonce salt count = codes "r=" ++ nonce ++ codes ",s=" ++ base64 salt ++ codes ",i=" ++ decimal count
+server_first nonce salt count =
+    codes "r=" ++ nonce ++ codes ",s=" ++ base64 salt ++ codes ",i=" ++ decimal count
 
 -- server-final-message
 abbrev pub server_final : List ℕ → List ℕ
@@ -43,10 +44,12 @@ names_end_point header = begins_with header (codes "p=tls-server-end-point,")
 -- without a hash the client binds; or beside a hash it binds to something else, or thinks that the server offers none
 abbrev pub is_misbound : Option (List ℕ) → List ℕ → Bool
 is_misbound None header = is_bound header
-is_misbound (Some hash) header = begins_with header (codes "y,") || (is_bound header && not (names_end_point header))
+is_misbound (Some hash) header =
+    begins_with header (codes "y,") || (is_bound header && not (names_end_point header))
 
 abbrev pub channel_refusal : Option (List ℕ) → ClientFirst → Option PgWireError
-channel_refusal hash parts = unless_so (not (is_misbound hash parts.header)) (InvalidScramMessage fault.ChannelBinding)
+channel_refusal hash parts =
+    unless_so (not (is_misbound hash parts.header)) (InvalidScramMessage fault.ChannelBinding)
 
 -- what is bound: the header, and behind it the certificate's hash where the header names it and there is one (cbind-input)
 abbrev pub bound : List ℕ → Option (List ℕ) → List ℕ
@@ -57,7 +60,15 @@ bound header (Some hash) = if names_end_point header then header ++ hash else he
 
 abbrev pub offer_of : ClientFirst → Option (List ℕ) → List ℕ → ℕ → List ℕ → Offer
 offer_of parts hash salt count own =
-    record { user = parts.user; bare = parts.bare; server_first = server_first (whole_nonce parts.nonce own) salt count; nonce = whole_nonce parts.nonce own; binding = base64 (bound parts.header hash) }
+    record {
+      user = parts.user;
+      bare = parts.bare;
+      server_first = server_first
+          (whole_nonce parts.nonce own) salt count;
+      nonce =
+          whole_nonce parts.nonce own;
+      binding = base64 (bound parts.header hash);
+    }
 
 -- what both ends authenticate
 abbrev pub exchanged : Offer → ClientFinal → List ℕ
@@ -66,10 +77,12 @@ exchanged offer parts = auth_message offer.bare offer.server_first parts.without
 -- another binding; or another nonce
 abbrev pub answer_refusal : Offer → ClientFinal → Option PgWireError
 answer_refusal offer parts =
-    first_of (unless_so (bytes_eq parts.binding offer.binding) (InvalidScramMessage fault.ChannelBinding))
+    first_of (unless_so (bytes_eq parts.binding offer.binding)
+    (InvalidScramMessage fault.ChannelBinding))
     (unless_so (bytes_eq parts.nonce offer.nonce) (InvalidScramMessage fault.Nonce))
 
-abbrev pub answered_as : Offer → Result ClientFinal ScramMessageFault → Result ClientFinal PgWireError
+abbrev pub answered_as : Offer → Result ClientFinal ScramMessageFault
+    → Result ClientFinal PgWireError
 answered_as offer (Err why) = Err (InvalidScramMessage why)
 answered_as offer (Ok parts) = unless (answer_refusal offer parts) parts
 

@@ -62,13 +62,16 @@ abbrev pub or_grammar : {A : Type 0} → Option A → Result A ScramMessageFault
 or_grammar None = Err fault.Grammar
 or_grammar (Some parts) = Ok parts
 
-abbrev pub if_utf8 : {A : Type 0} → List ℕ → Result A ScramMessageFault → Result A ScramMessageFault
+abbrev pub if_utf8 : {A : Type 0} → List ℕ → Result A ScramMessageFault
+    → Result A ScramMessageFault
 if_utf8 message reading = if is_utf8 message then reading else Err fault.NotUtf8
 
 -- client-first: a flag, an authzid, and the bare message
 
 abbrev pub is_flag : List ℕ → Bool
-is_flag text = bytes_eq text (codes "n") || (bytes_eq text (codes "y") || is_some (behind_name (codes "p=") text))
+is_flag text =
+    bytes_eq text (codes "n") ||
+    (bytes_eq text (codes "y") || is_some (behind_name (codes "p=") text))
 
 abbrev pub is_authzid : List ℕ → Bool
 is_authzid text = bytes_eq text [] || is_some (behind_name (codes "a=") text)
@@ -82,7 +85,9 @@ unfoldable pub header_parts : List ℕ → Option (List ℕ × List ℕ)
 header_parts message = do
   rest ← (cut message).1
   bare ← (cut rest).1
-  if is_flag (cut message).0 then (if is_authzid (cut rest).0 then Some ((cut message).0 ++ 44 ∷ ((cut rest).0 ++ 44 ∷ []), bare) else None) else None
+  if is_flag (cut message).0 then
+      (if is_authzid (cut rest).0 then Some
+      ((cut message).0 ++ 44 ∷ ((cut rest).0 ++ 44 ∷ []), bare) else None) else None
 
 unfoldable pub client_first_parts : List ℕ → Option ClientFirst
 client_first_parts message = do
@@ -104,9 +109,11 @@ server_first_parts message = do
 
 abbrev pub first_by_count : List ℕ → List ℕ → Option ℕ → Result ServerFirst ScramMessageFault
 first_by_count nonce salt None = Err fault.Count
-first_by_count nonce salt (Some n) = if n == 0 then Err fault.Count else Ok (record { nonce = nonce; salt = salt; count = n })
+first_by_count nonce salt (Some n) =
+    if n == 0 then Err fault.Count else Ok (record { nonce = nonce; salt = salt; count = n })
 
-abbrev pub first_with_count : Option (List ℕ × List ℕ × List ℕ) → Result ServerFirst ScramMessageFault
+abbrev pub first_with_count : Option (List ℕ × List ℕ × List ℕ)
+    → Result ServerFirst ScramMessageFault
 first_with_count None = Err fault.Grammar
 first_with_count (Some (nonce, salt, count)) = first_by_count nonce salt (number_in 32 count)
 
@@ -134,12 +141,14 @@ abbrev pub error_in : Option (List ℕ × Option (List ℕ)) → Option ServerFi
 error_in None = None
 error_in (Some (value, more)) = Some (Failed value)
 
-abbrev pub verifier_or : Option (List ℕ × Option (List ℕ)) → Option ServerFinal → Option ServerFinal
+abbrev pub verifier_or : Option (List ℕ × Option (List ℕ)) → Option ServerFinal
+    → Option ServerFinal
 verifier_or None other = other
 verifier_or (Some (value, more)) other = Some (Signature value)
 
 unfoldable pub server_final_parts : List ℕ → Option ServerFinal
-server_final_parts message = verifier_or (attribute_at (codes "v=") message) (error_in (attribute_at (codes "e=") message))
+server_final_parts message =
+    verifier_or (attribute_at (codes "v=") message) (error_in (attribute_at (codes "e=") message))
 
 abbrev pub read_server_final : List ℕ → Result ServerFinal ScramMessageFault
 read_server_final message = if_utf8 message (or_grammar (server_final_parts message))

@@ -32,10 +32,12 @@ abbrev pub scram_first_refusal : List ℕ → List ℕ → Option ScramClientErr
 scram_first_refusal nonce first = parts_refusal nonce (read_server_first first)
 
 -- server-final outside its grammar; or it tells a failure; or its signature is another
-abbrev pub verifier_refusal : List ℕ → Result ServerFinal ScramMessageFault → Option ScramClientError
+abbrev pub verifier_refusal : List ℕ → Result ServerFinal ScramMessageFault
+    → Option ScramClientError
 verifier_refusal expected (Err why) = Some (PgWireError (InvalidScramMessage why))
 verifier_refusal expected (Ok (Failed text)) = Some (ScramError (scram_fault.ServerError text))
-verifier_refusal expected (Ok (Signature text)) = unless_so (bytes_eq text expected) (ScramError scram_fault.SignatureMismatch)
+verifier_refusal expected (Ok (Signature text)) =
+    unless_so (bytes_eq text expected) (ScramError scram_fault.SignatureMismatch)
 
 abbrev pub scram_refusal : List ℕ → List ℕ → Option ScramClientError
 scram_refusal expected final = verifier_refusal expected (read_server_final final)

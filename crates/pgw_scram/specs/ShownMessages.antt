@@ -18,13 +18,26 @@ abbrev pub shown_header : Header → List ℕ × List ℕ
 shown_header h = (header_text h, h.bare.now)
 
 abbrev pub shown_client_first : ClientFirstIn → ClientFirst
-shown_client_first p = record { header = header_text p.header; bare = p.header.bare.now; user = p.user.now; nonce = p.nonce.now }
+shown_client_first p =
+    record {
+      header = header_text p.header;
+      bare = p.header.bare.now;
+      user = p.user.now;
+      nonce =
+          p.nonce.now;
+    }
 
 abbrev pub shown_server_first : ServerFirstIn → List ℕ × List ℕ × List ℕ
 shown_server_first p = (p.nonce.now, p.salt.now, p.count.now)
 
 abbrev pub shown_client_final : ClientFinalIn → ClientFinal
-shown_client_final p = record { binding = p.binding.now; nonce = p.nonce.now; without_proof = p.without_proof.now; proof = p.proof.now }
+shown_client_final p =
+    record {
+      binding = p.binding.now;
+      nonce = p.nonce.now;
+      without_proof = p.without_proof.now;
+      proof = p.proof.now;
+    }
 
 abbrev pub shown_server_final : ServerFinalIn → ServerFinal
 shown_server_final (borrowed.Signature text) = Signature text.now

@@ -38,7 +38,9 @@ no_bytes i = lit< tt
 digest_is_bytes : (h : List ℕ) (n : ℕ) → IsBytes (digest_bytes h n)
 unfolding digest_bytes
 digest_is_bytes h zero = no_bytes
-digest_is_bytes h (suc n) = bytes_append (digest_bytes h n) (to_be_bytes w32 (slice_index h n)) (digest_is_bytes h n) (word_bytes (slice_index h n))
+digest_is_bytes h (suc n) =
+    bytes_append (digest_bytes h n) (to_be_bytes w32 (slice_index h n)) (digest_is_bytes h n)
+    (word_bytes (slice_index h n))
 
 pub sha256_key : (m : List ℕ) → IsScramKey (sha256 m)
 unfolding sha256
@@ -48,7 +50,8 @@ pub hmac_key : (key text : List ℕ) → IsScramKey (hmac_sha256 key text)
 unfolding hmac_sha256
 hmac_key key text = sha256_key _
 
-pub made_kept : (password salt : List ℕ) (count : ℕ) → 1 ≤ count → count < 2 ^ 32 → IsBytes salt → IsStoredSecret (secret_of password salt count)
+pub made_kept : (password salt : List ℕ) (count : ℕ) → 1 ≤ count → count < 2 ^ 32 → IsBytes salt
+    → IsStoredSecret (secret_of password salt count)
 made_kept password salt count least most bytes = record {
   at_least_one = least;
   in_32_bits = most;

@@ -15,26 +15,46 @@ use Rattle.pgw_secrets.proofs.Marks.{lacks_append}
 
 -- ---- base64
 
-symbol_at : (mark : ℕ) (table : List ℕ) (i : ℕ) → not (0 == mark) ≡ true → Lacks mark table → not (get_or table i 0 == mark) ≡ true
+symbol_at : (mark : ℕ) (table : List ℕ) (i : ℕ) → not (0 == mark) ≡ true → Lacks mark table
+    → not (get_or table i 0 == mark) ≡ true
 symbol_at mark [] i z h = z
 symbol_at mark (x ∷ table) zero z h = (and_parts (not (x == mark)) (list_all (λ b. not (b == mark)) table) h).0
-symbol_at mark (x ∷ table) (suc i) z h = symbol_at mark table i z (and_parts (not (x == mark)) (list_all (λ b. not (b == mark)) table) h).1
+symbol_at mark (x ∷ table) (suc i) z h =
+    symbol_at mark table i z (and_parts (not (x == mark)) (list_all (λ b. not (b == mark)) table) h).1
 
-symbols_lack : (mark : ℕ) (table message : List ℕ) → not (0 == mark) ≡ true → Lacks mark table → Lacks mark (encode_symbols table message)
+symbols_lack : (mark : ℕ) (table message : List ℕ) → not (0 == mark) ≡ true → Lacks mark table
+    → Lacks mark (encode_symbols table message)
 unfolding encode_symbols
 symbols_lack mark table [] z h = refl
-symbols_lack mark table (a ∷ []) z h = rw (symbol_at mark table (a / 4) z h, symbol_at mark table (a % 4 * 16) z h) refl
-symbols_lack mark table (a ∷ b ∷ []) z h = rw (symbol_at mark table (a / 4) z h, symbol_at mark table (a % 4 * 16 + b / 16) z h, symbol_at mark table (b % 16 * 4) z h) refl
+symbols_lack mark table (a ∷ []) z h =
+    rw (symbol_at mark table (a / 4) z h, symbol_at mark table (a % 4 * 16) z h) refl
+symbols_lack mark table (a ∷ b ∷ []) z h =
+    rw (
+      symbol_at mark table (a / 4) z h,
+      symbol_at mark table (a % 4 * 16 + b / 16) z h,
+      symbol_at mark table
+          (b % 16 * 4) z h,
+    ) refl
 symbols_lack mark table (a ∷ b ∷ c ∷ rest) z h =
-    rw (symbol_at mark table (a / 4) z h, symbol_at mark table (a % 4 * 16 + b / 16) z h, symbol_at mark table (b % 16 * 4 + c / 64) z h, symbol_at mark table (c % 64) z h) (symbols_lack mark table rest z h)
+    rw (
+      symbol_at mark table (a / 4) z h,
+      symbol_at mark table (a % 4 * 16 + b / 16) z h,
+      symbol_at mark table
+          (b % 16 * 4 + c / 64) z h,
+      symbol_at mark table (c % 64) z h,
+    ) (symbols_lack mark table rest z h)
 
 padding_lacks : (mark n : ℕ) → not (61 == mark) ≡ true → Lacks mark (replicate n 61)
 padding_lacks mark zero h = refl
 padding_lacks mark (suc n) h = rw h (padding_lacks mark n h)
 
-base64_lacks : (mark : ℕ) (bytes : List ℕ) → not (0 == mark) ≡ true → not (61 == mark) ≡ true → Lacks mark (engine_symbols standard) → Lacks mark (base64 bytes)
+base64_lacks : (mark : ℕ) (bytes : List ℕ) → not (0 == mark) ≡ true → not (61 == mark) ≡ true
+    → Lacks mark (engine_symbols standard) → Lacks mark (base64 bytes)
 unfolding base64
-base64_lacks mark bytes z p h = lacks_append mark (encode_symbols (engine_symbols standard) bytes) (replicate (padding_len (length bytes)) 61) (symbols_lack mark (engine_symbols standard) bytes z h) (padding_lacks mark (padding_len (length bytes)) p)
+base64_lacks mark bytes z p h =
+    lacks_append mark (encode_symbols (engine_symbols standard) bytes) (replicate (padding_len (length bytes)) 61)
+    (symbols_lack mark (engine_symbols standard) bytes z h)
+    (padding_lacks mark (padding_len (length bytes)) p)
 
 pub base64_no_dollar : (bytes : List ℕ) → Lacks 36 (base64 bytes)
 base64_no_dollar bytes = base64_lacks 36 bytes refl refl refl
@@ -63,7 +83,8 @@ digits_lack (d ∷ ds) h =
     let q = and_parts (is_digit d 10) (list_all (λ c. is_digit c 10) ds) h in
     rw (digit_by d (d == 58) refl q.0, digits_lack ds q.1) refl
 
-plus_by : (c : ℕ) (cs : List ℕ) (b : Bool) → (c == 43) ≡ b → list_all (λ c. is_digit c 10) (without_leading_plus (c ∷ cs)) ≡ true → Lacks 58 (c ∷ cs)
+plus_by : (c : ℕ) (cs : List ℕ) (b : Bool) → (c == 43) ≡ b
+    → list_all (λ c. is_digit c 10) (without_leading_plus (c ∷ cs)) ≡ true → Lacks 58 (c ∷ cs)
 plus_by c cs true e h =
     let same : without_leading_plus (c ∷ cs) ≡ cs = rw e refl in
     let is : c ≡ 43 = eqb-true c 43 e in
@@ -72,7 +93,8 @@ plus_by c cs false e h =
     let same : without_leading_plus (c ∷ cs) ≡ c ∷ cs = rw e refl in
     digits_lack (c ∷ cs) (rw same at h)
 
-number_lacks_by : (text : List ℕ) → list_all (λ c. is_digit c 10) (without_leading_plus text) ≡ true → Lacks 58 text
+number_lacks_by : (text : List ℕ) → list_all (λ c. is_digit c 10) (without_leading_plus text) ≡ true
+    → Lacks 58 text
 number_lacks_by [] h = refl
 number_lacks_by (c ∷ cs) h = plus_by c cs (c == 43) refl h
 

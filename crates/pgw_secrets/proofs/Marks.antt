@@ -10,11 +10,15 @@ use Rattle.pgw_secrets.specs.Found.{Lacks, CutAt}
 
 lacks_from : (mark : ℕ) (text : List ℕ) → ((i : ℕ) → i < length text → get_or text i 0 ≢ mark) → Lacks mark text
 lacks_from mark text none =
-    let all : AllPass (λ b. not (b == mark)) text = λ k d within. not_from_false _ (ne_eqb (get_or text k d) mark (λ is. none k within (sym (get_or_default_zero text k d within) ∙ is))) in
+    let all : AllPass (λ b. not (b == mark)) text =
+    λ k d within. not_from_false _
+    (ne_eqb (get_or text k d) mark (λ is. none k within (sym (get_or_default_zero text k d within)
+    ∙ is))) in
     list_all-from_AllPass (λ b. not (b == mark)) text all
 
 -- std cuts at the first mark
-pub cuts : (mark : ℕ) (text : List ℕ) (r : Option (Bor (List ℕ) × Bor (List ℕ))) → IsSplitOnceResult mark text r → mark < 128 → CutAt mark text (option_map (λ x. (x.0.now, x.1.now)) r)
+pub cuts : (mark : ℕ) (text : List ℕ) (r : Option (Bor (List ℕ) × Bor (List ℕ))) → IsSplitOnceResult mark text r
+    → mark < 128 → CutAt mark text (option_map (λ x. (x.0.now, x.1.now)) r)
 cuts mark text None h low = lacks_from mark text (split_parts mark text None h low)
 cuts mark text (Some x) h low =
     let parts = split_parts mark text (Some x) h low in
@@ -24,10 +28,12 @@ pub lacks_append : (mark : ℕ) (xs ys : List ℕ) → Lacks mark xs → Lacks m
 lacks_append mark xs ys h k = list_all-append (λ b. not (b == mark)) xs ys ∙ and_from _ _ h k
 
 not_itself : (mark : ℕ) → not (mark == mark) ≡ true → ⊥
-not_itself mark h = let same : (mark == mark) ≡ true = eq-eqb mark mark refl in let other = not-true (mark == mark) h in cc
+not_itself mark h =
+    let same : (mark == mark) ≡ true = eq-eqb mark mark refl in let other = not-true (mark == mark) h in cc
 
 -- behind texts without the mark
-pub same_cut : (mark : ℕ) (a b x y : List ℕ) → Lacks mark a → Lacks mark b → a ++ mark ∷ x ≡ b ++ mark ∷ y → (a ≡ b) × (x ≡ y)
+pub same_cut : (mark : ℕ) (a b x y : List ℕ) → Lacks mark a → Lacks mark b → a ++ mark ∷ x ≡ b ++ mark ∷ y
+    → (a ≡ b) × (x ≡ y)
 same_cut mark [] [] x y la lb e = (refl, cc)
 same_cut mark [] (c ∷ b) x y la lb e =
     let q = and_parts (not (c == mark)) (list_all (λ b. not (b == mark)) b) lb in

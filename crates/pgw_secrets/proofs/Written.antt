@@ -8,7 +8,9 @@ use Rattle.pgw_secrets.specs.declared.secret.StoredSecret.{StoredSecret}
 use Rattle.pgw_secrets.specs.Secret.{IsStoredSecret, stored_secret_text}
 use Rattle.pgw_secrets.specs.Text.{IsSecretText}
 
-cut_at_parts : (count salt stored server : List ℕ) → codes "SCRAM-SHA-256$" ++ count ++ codes ":" ++ salt ++ codes "$" ++ stored ++ codes ":" ++ server ≡ codes "SCRAM-SHA-256$" ++ (count ++ 58 ∷ (salt ++ 36 ∷ (stored ++ 58 ∷ server)))
+cut_at_parts : (count salt stored server : List ℕ)
+    → codes "SCRAM-SHA-256$" ++ count ++ codes ":" ++ salt ++ codes "$" ++ stored ++ codes ":" ++ server ≡ codes
+    "SCRAM-SHA-256$" ++ (count ++ 58 ∷ (salt ++ 36 ∷ (stored ++ 58 ∷ server)))
 cut_at_parts count salt stored server = simp (append_assoc) refl
 
 pub read_back : (s : StoredSecret) → IsStoredSecret s → IsSecretText (stored_secret_text s) s
@@ -26,7 +28,12 @@ read_back s kept =
           before = record {
             from = decimal s.count ++ 58 ∷ salt;
             before = cut_at_parts (decimal s.count) (base64 s.salt) (base64 s.stored_key) server;
-            part = record { written = decimal s.count; cut = refl; counts = number_in-decimal s.count 32 fits kept.in_32_bits; positive = omega (arith, kept.at_least_one) };
+            part = record {
+              written = decimal s.count;
+              cut = refl;
+              counts = number_in-decimal s.count 32 fits kept.in_32_bits;
+              positive = omega (arith, kept.at_least_one);
+            };
           };
           part = (refl, kept.salt_bytes);
         };

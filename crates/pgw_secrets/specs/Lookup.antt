@@ -21,14 +21,15 @@ abbrev pub answers_for : List ℕ → ℕ → List ℕ → List ℕ → Entry �
 answers_for host port database user = answers host (decimal port) database user
 
 -- the password of the first entry that passes a test
-pub record IsFirstEntry (test : Entry → Bool) (entries : List Entry) (password : List ℕ) : Type 0 where
-  pub front : List Entry
-  pub entry : Entry
-  pub back : List Entry
-  pub cut : entries ≡ front ++ entry ∷ back
-  pub earlier : list_all (λ e. not (test e)) front ≡ true
-  pub passes : test entry ≡ true
-  pub is : password ≡ entry.password
+pub record IsFirstEntry (test : Entry → Bool) (entries : List Entry) (password : List ℕ) : Type 0
+  where
+    pub front : List Entry
+    pub entry : Entry
+    pub back : List Entry
+    pub cut : entries ≡ front ++ entry ∷ back
+    pub earlier : list_all (λ e. not (test e)) front ≡ true
+    pub passes : test entry ≡ true
+    pub is : password ≡ entry.password
 
 -- this, or none passes it
 abbrev pub IsFound : (Entry → Bool) → List Entry → Option (List ℕ) → Type 0

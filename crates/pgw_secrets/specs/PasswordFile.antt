@@ -43,8 +43,10 @@ IsPasswordField text (Is value) = (text ≡ 42 ∷ [] → ⊥) × WritesPassFiel
 
 -- in a password a colon stands for itself, and a backslash at the end for nothing
 pub data IsPassword : List ℕ → List ℕ → Type 0 where
-  whole : {text value : List ℕ} → WritesPassField ends_no_password text value → IsPassword text value
-  stopped : {body value : List ℕ} → WritesPassField ends_no_password body value → IsPassword (body ++ 92 ∷ []) value
+  whole : {text value : List ℕ} → WritesPassField ends_no_password text value
+      → IsPassword text value
+  stopped : {body value : List ℕ} → WritesPassField ends_no_password body value
+      → IsPassword (body ++ 92 ∷ []) value
 
 -- ---- entries
 

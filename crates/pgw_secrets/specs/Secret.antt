@@ -40,4 +40,5 @@ secret_text count salt stored_key server_key =
     ++ codes ":" ++ server_key
 
 abbrev pub stored_secret_text : StoredSecret → List ℕ
-stored_secret_text s = secret_text s.count (base64 s.salt) (base64 s.stored_key) (base64 s.server_key)
+stored_secret_text s =
+    secret_text s.count (base64 s.salt) (base64 s.stored_key) (base64 s.server_key)

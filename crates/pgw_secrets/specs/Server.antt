@@ -66,7 +66,8 @@ AcceptsAs server (Ok parts) answer = Judges server parts answer
 
 -- what is answered to client-final
 abbrev pub AcceptsStored : StoredScramWaiting → List ℕ → Result (List ℕ) PgWireError → Type 0
-AcceptsStored server message answer = AcceptsAs server (final_for_offer server.offer message) answer
+AcceptsStored server message answer =
+    AcceptsAs server (final_for_offer server.offer message) answer
 
 -- this, or memory ran out
 abbrev pub StoredOrNoMemory : (Result (List ℕ) PgWireError → Type 0) → Result (List ℕ) PgWireError

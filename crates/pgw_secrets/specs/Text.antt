@@ -69,7 +69,8 @@ abbrev pub HasCount : List ℕ → Type 0
 HasCount text = (count : ℕ) × (behind : List ℕ) × Counted text count behind
 
 abbrev pub HasSalt : List ℕ → Type 0
-HasSalt text = (count : ℕ) × (salt : List ℕ) × (behind : List ℕ) × ReadsSalt text count salt behind
+HasSalt text =
+    (count : ℕ) × (salt : List ℕ) × (behind : List ℕ) × ReadsSalt text count salt behind
 
 abbrev pub HasStoredKey : List ℕ → Type 0
 HasStoredKey text =

@@ -21,12 +21,14 @@ ghost use Rattle.pgw_secrets.specs.Comparison.{storing, kept_password, stored_of
 
 /// The text of a secret tells it.
 pub fn a_secrets_text_tells_it()
-    ensures { (secret : StoredSecret) → IsStoredSecret secret → IsSecretText (stored_secret_text secret) secret }
+    ensures { (secret : StoredSecret) → IsStoredSecret secret →
+        IsSecretText (stored_secret_text secret) secret }
 {}
 
 /// A text has one reading, be it a secret or a fault.
 pub fn a_text_has_one_reading()
-    ensures { (text : List ℕ) (one other : Result StoredSecret SecretFault) → IsSecretReading text one
+    ensures { (text : List ℕ) (one other : Result StoredSecret SecretFault) →
+        IsSecretReading text one
         → IsSecretReading text other → one ≡ other }
 {}
 
@@ -68,7 +70,8 @@ pub fn a_secret_refuses_alike_before_the_proof()
 
 /// Where the SaltedPassword's server accepts a proof, the secret's does, with the same last message.
 pub fn a_secret_accepts_what_its_password_does()
-    ensures { (server : WaitingForClientFinal) (message final : List ℕ) → IsScramKey server.client_key
+    ensures { (server : WaitingForClientFinal) (message final : List ℕ) →
+        IsScramKey server.client_key
         → accepted server message ≡ Ok final → AcceptsStored (stored_of server) message (Ok final) }
 {}
 
@@ -76,7 +79,8 @@ pub fn a_secret_accepts_what_its_password_does()
 pub fn an_accepted_proof_hashes_to_the_stored_key()
     ensures { (server : StoredScramWaiting) (message final : List ℕ)
         → AcceptsStored server message (Ok final)
-        → (parts : ClientFinal) × (final_for_offer server.offer message ≡ Ok parts) × Proves server parts }
+        → (parts : ClientFinal) × (final_for_offer server.offer message ≡ Ok parts) ×
+        Proves server parts }
 {}
 
 /// Where no other 32 bytes hash to what the client's key does, both answer the same.

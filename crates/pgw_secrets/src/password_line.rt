@@ -243,7 +243,8 @@ fn add_line(
     end: usize,
 ) -> Result<(), OutOfMemory>
     requires { end ≤ length rest.now }
-    ensures { OnOk result (AddsPasswordEntry (without_return (take end rest.now)) entries.old entries.new) }
+    ensures { OnOk result (AddsPasswordEntry (without_return (take end rest.now)) entries.old
+        entries.new) }
 {
     let line = line_up_to(rest.as_slice(), end);
     let Some(parts) = parts_in(line) else {

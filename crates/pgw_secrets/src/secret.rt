@@ -91,7 +91,8 @@ fn written(
     stored_key: &str,
     server_key: &str,
 ) -> Result<Text, OutOfMemory>
-    ensures { IfOk result (λ text. text ≡ secret_text count salt.now stored_key.now server_key.now) }
+    ensures { IfOk result (λ text. text ≡ secret_text count salt.now stored_key.now
+        server_key.now) }
 {
     let mut digits = Buffer::new();
     let mut text = String::from_str(alloc, "SCRAM-SHA-256$")?;

@@ -28,12 +28,16 @@ use Rattle.pgw_session.proofs.ReadingLaws.{steady_by}
 use Rattle.pgw_session.proofs.Hears.{Follows, sents_append, sents_sends}
 use Rattle.pgw_session.specs.Input.{Input}
 
-pub joined_more : (segments : List (List Event)) (es : List Event) → all_events (segments ++ es ∷ []) ≡ all_events segments ++ es
+pub joined_more : (segments : List (List Event)) (es : List Event)
+    → all_events (segments ++ es ∷ []) ≡ all_events segments ++ es
 joined_more [] es = append-nil es
-joined_more (first ∷ segments) es = ap (λ (l : List Event). first ++ l) (joined_more segments es) ∙ sym (append_assoc first (all_events segments) es)
+joined_more (first ∷ segments) es =
+    ap (λ (l : List Event). first ++ l) (joined_more segments es)
+    ∙ sym (append_assoc first (all_events segments) es)
 
 -- a joined list, cut in one of its segments
-pub joined_cut : (closed : List (List Event)) (part rest : List Event) (later : List (List Event)) → all_events (closed ++ (part ++ rest) ∷ later) ≡ (all_events closed ++ part) ++ (rest ++ all_events later)
+pub joined_cut : (closed : List (List Event)) (part rest : List Event) (later : List (List Event))
+    → all_events (closed ++ (part ++ rest) ∷ later) ≡ (all_events closed ++ part) ++ (rest ++ all_events later)
 joined_cut [] part rest later = append_assoc part rest (all_events later)
 joined_cut (first ∷ closed) part rest later =
     ap (λ (l : List Event). first ++ l) (joined_cut closed part rest later)
@@ -45,22 +49,27 @@ standing_sends r [] = refl
 standing_sends r (f ∷ fs) = standing_sends r fs
 
 -- the version behind a message, and what was sent then
-pub standing_more : (config : Config) (es : List Event) (m : Backend) (fs : List Frontend) → standing_of config ((es ++ Got m ∷ []) ++ map Sent fs) ≡ standing_by (standing_of config es) m
+pub standing_more : (config : Config) (es : List Event) (m : Backend) (fs : List Frontend)
+    → standing_of config ((es ++ Got m ∷ []) ++ map Sent fs) ≡ standing_by (standing_of config es) m
 unfolding standing_of
 standing_more config es m fs =
     fold-append standing_at (first_standing config) (es ++ Got m ∷ []) (map Sent fs)
     ∙ ap (λ r. fold standing_at r (map Sent fs)) (fold-append standing_at (first_standing config) es (Got m ∷ []))
     ∙ standing_sends _ fs
 
-pub standing_plus : (config : Config) (es : List Event) (fs : List Frontend) → standing_of config (es ++ map Sent fs) ≡ standing_of config es
+pub standing_plus : (config : Config) (es : List Event) (fs : List Frontend)
+    → standing_of config (es ++ map Sent fs) ≡ standing_of config es
 unfolding standing_of
-standing_plus config es fs = fold-append standing_at (first_standing config) es (map Sent fs) ∙ standing_sends _ fs
+standing_plus config es fs =
+    fold-append standing_at (first_standing config) es (map Sent fs) ∙ standing_sends _ fs
 
-pub standing_one : (config : Config) (es : List Event) (m : Backend) → standing_of config (es ++ Got m ∷ []) ≡ standing_by (standing_of config es) m
+pub standing_one : (config : Config) (es : List Event) (m : Backend)
+    → standing_of config (es ++ Got m ∷ []) ≡ standing_by (standing_of config es) m
 unfolding standing_of
 standing_one config es m = fold-append standing_at (first_standing config) es (Got m ∷ [])
 
-pub first_sends : (config : Config) (fs : List Frontend) → standing_of config (map Sent fs) ≡ first_standing config
+pub first_sends : (config : Config) (fs : List Frontend)
+    → standing_of config (map Sent fs) ≡ first_standing config
 unfolding standing_of
 first_sends config fs = standing_sends (first_standing config) fs
 
@@ -68,7 +77,8 @@ reply_tally : (t : Tally) (reply : Option Frontend) → fold tally_at t (map Sen
 reply_tally t None = refl
 reply_tally t (Some m) = refl
 
-pub tally_on : (es : List Event) (m : Backend) (reply : Option Frontend) → tally_of (es ++ Got m ∷ map Sent (sends reply)) ≡ tally_after (tally_of es) m
+pub tally_on : (es : List Event) (m : Backend) (reply : Option Frontend)
+    → tally_of (es ++ Got m ∷ map Sent (sends reply)) ≡ tally_after (tally_of es) m
 unfolding tally_of
 tally_on es m reply = fold-append tally_at _ es (Got m ∷ map Sent (sends reply)) ∙ reply_tally _ reply
 
@@ -85,22 +95,37 @@ both_nil (Ok a) = refl
 
 pub encodings_append : (xs ys : List Frontend) → encodings (xs ++ ys) ≡ both (encodings xs) (encodings ys)
 encodings_append [] ys = sym (both_nil (encodings ys))
-encodings_append (x ∷ xs) ys = ap (both (encoding x)) (encodings_append xs ys) ∙ sym (both_assoc (encoding x) (encodings xs) (encodings ys))
+encodings_append (x ∷ xs) ys =
+    ap (both (encoding x)) (encodings_append xs ys) ∙ sym (both_assoc (encoding x) (encodings xs) (encodings ys))
 
-pub put_on_sends : (es : List Event) (a b : List ℕ) (fs : List Frontend) (m : Backend) → encodings (sents es) ≡ Ok a → encodings fs ≡ Ok b → encodings (sents ((es ++ Got m ∷ []) ++ map Sent fs)) ≡ Ok (a ++ b)
+pub put_on_sends : (es : List Event) (a b : List ℕ) (fs : List Frontend) (m : Backend)
+    → encodings (sents es) ≡ Ok a → encodings fs ≡ Ok b
+    → encodings (sents ((es ++ Got m ∷ []) ++ map Sent fs)) ≡ Ok (a ++ b)
 put_on_sends es a b fs m put is =
-    ap encodings (sents_append (es ++ Got m ∷ []) (map Sent fs) ∙ ap (λ (l : List Frontend). l ++ sents (map Sent fs)) (sents_append es (Got m ∷ []) ∙ append-nil (sents es)) ∙ ap (λ (l : List Frontend). sents es ++ l) (sents_sends fs))
+    ap encodings (sents_append (es ++ Got m ∷ []) (map Sent fs)
+    ∙ ap (λ (l : List Frontend). l ++ sents (map Sent fs)) (sents_append es (Got m ∷ [])
+    ∙ append-nil (sents es))
+    ∙ ap (λ (l : List Frontend). sents es ++ l) (sents_sends fs))
     ∙ encodings_append (sents es) fs
     ∙ ap (λ o. both o (encodings fs)) put
     ∙ ap (both (Ok a)) is
 
 -- a message more
-pub got_more : (r : Standing) (es : List Event) (m : Backend) (a b : List ℕ) → SpellsGot r es a → Spells (fold standing_at r es).version m b → SpellsGot r (es ++ Got m ∷ []) (a ++ b)
+pub got_more : (r : Standing) (es : List Event) (m : Backend) (a b : List ℕ) → SpellsGot r es a
+    → Spells (fold standing_at r es).version m b → SpellsGot r (es ++ Got m ∷ []) (a ++ b)
 got_more r [] m a b s p = (b, [], ap (λ (x : List ℕ). x ++ b) s ∙ sym (append-nil b), p, refl)
 got_more r (Sent x ∷ es) m a b s p = got_more r es m a b s p
-got_more r (Got x ∷ es) m a b s p = (s.0, s.1 ++ b, ap (λ (l : List ℕ). l ++ b) s.2 ∙ append_assoc s.0 s.1 b, s.3, got_more (standing_by r x) es m s.1 b s.4 p)
+got_more r (Got x ∷ es) m a b s p = (
+  s.0,
+  s.1 ++ b,
+  ap (λ (l : List ℕ). l ++ b) s.2
+      ∙ append_assoc s.0 s.1 b,
+  s.3,
+  got_more (standing_by r x) es m s.1 b s.4 p,
+)
 
-pub got_sends : (r : Standing) (es : List Event) (fs : List Frontend) (a : List ℕ) → SpellsGot r es a → SpellsGot r (es ++ map Sent fs) a
+pub got_sends : (r : Standing) (es : List Event) (fs : List Frontend) (a : List ℕ) → SpellsGot r es a
+    → SpellsGot r (es ++ map Sent fs) a
 got_sends r [] [] a s = s
 got_sends r [] (f ∷ fs) a s = got_sends r [] fs a s
 got_sends r (Sent x ∷ es) fs a s = got_sends r es fs a s
@@ -114,32 +139,59 @@ abbrev pub Grown : List Event → Move Talk Ending → Type 0
 Grown es (On next out) = (fs : List Frontend) × (heard_of next ≡ es ++ map Sent fs) × (encodings fs ≡ Ok out)
 Grown es (Ends e out) = Unit {0}
 
-sending_grown : (before behind : Talk) (es : List Event) (fs : List Frontend) (o : Result (List ℕ) PgWireError) → encodings fs ≡ o → heard_of behind ≡ es ++ map Sent fs → Grown es (sending before behind o)
+sending_grown : (before behind : Talk) (es : List Event) (fs : List Frontend) (o : Result (List ℕ) PgWireError)
+    → encodings fs ≡ o → heard_of behind ≡ es ++ map Sent fs → Grown es (sending before behind o)
 sending_grown before behind es fs (Err e) is are = tt
 sending_grown before behind es fs (Ok out) is are = (fs, are, is)
 
-pub opens_grown : (input : Input) (closed : List (List Event)) (q : Option Request) → Grown (all_events closed) (opens input closed q)
+pub opens_grown : (input : Input) (closed : List (List Event)) (q : Option Request)
+    → Grown (all_events closed) (opens input closed q)
 opens_grown input closed None = tt
-opens_grown input closed (Some q) = sending_grown _ (record { closed = closed; open_events = map Sent (sends_of q); stage = stage_for q; passed = [] }) (all_events closed) (sends_of q) (encodings (sends_of q)) refl (append-nil _)
+opens_grown input closed (Some q) =
+    sending_grown _ (record {
+      closed = closed;
+      open_events = map Sent (sends_of q);
+      stage = stage_for q;
+      passed = [];
+    }) (all_events closed) (sends_of q) (encodings (sends_of q)) refl (append-nil _)
 
-moves_grown : (input : Input) (t : Talk) (m : Backend) (n : Next) → t.passed ≡ [] → Grown (said t ++ Got m ∷ []) (moves input t m n)
+moves_grown : (input : Input) (t : Talk) (m : Backend) (n : Next) → t.passed ≡ []
+    → Grown (said t ++ Got m ∷ []) (moves input t m n)
 moves_grown input t m (Goes stage reply) none =
-    sending_grown _ (record { closed = t.closed; open_events = t.open_events ++ Got m ∷ map Sent (sends reply); stage = stage; passed = [] }) (said t ++ Got m ∷ []) (sends reply) (encodings (sends reply)) refl
-    (append-nil _ ∙ sym (append_assoc (all_events t.closed) t.open_events (Got m ∷ map Sent (sends reply))) ∙ sym (append_assoc (said t) (Got m ∷ []) (map Sent (sends reply))))
+    sending_grown _ (record {
+      closed = t.closed;
+      open_events = t.open_events ++ Got m ∷ map Sent (sends reply);
+      stage = stage;
+      passed = [];
+    }) (said t ++ Got m ∷ []) (sends reply) (encodings (sends reply)) refl
+    (append-nil _ ∙ sym (append_assoc (all_events t.closed) t.open_events (Got m ∷ map Sent (sends reply)))
+    ∙ sym (append_assoc (said t) (Got m ∷ []) (map Sent (sends reply))))
 moves_grown input t m Closes none =
-    subst (λ (es : List Event). Grown es (moves input t m Closes)) (joined_more t.closed (t.open_events ++ Got m ∷ []) ∙ sym (append_assoc (all_events t.closed) t.open_events (Got m ∷ [])))
+    subst (λ (es : List Event). Grown es (moves input t m Closes))
+    (joined_more t.closed (t.open_events ++ Got m ∷ [])
+    ∙ sym (append_assoc (all_events t.closed) t.open_events (Got m ∷ [])))
     (opens_grown input _ (slice_get input.requests (length t.closed)))
 moves_grown input t m Wrong none = tt
 moves_grown input t m (Refuses e) none = tt
-moves_grown input t m PassesOver none = ([], ap (λ (l : List Backend). said t ++ map Got (l ++ m ∷ [])) none ∙ sym (append-nil _), refl)
+moves_grown input t m PassesOver none =
+    ([], ap (λ (l : List Backend). said t ++ map Got (l ++ m ∷ [])) none ∙ sym (append-nil _), refl)
 
-passing_grown : (input : Input) (t : Talk) (first m : Backend) (b : Bool) → Grown (heard_of t ++ Got m ∷ []) (passing input t first m b)
+passing_grown : (input : Input) (t : Talk) (first m : Backend) (b : Bool)
+    → Grown (heard_of t ++ Got m ∷ []) (passing input t first m b)
 passing_grown input t first m true = tt
-passing_grown input t first m false = ([], ap (λ (l : List Event). said t ++ l) (map-append Got t.passed (m ∷ [])) ∙ sym (append_assoc (said t) (map Got t.passed) (Got m ∷ [])) ∙ sym (append-nil _), refl)
+passing_grown input t first m false = (
+  [],
+  ap (λ (l : List Event). said t ++ l) (map-append Got t.passed (m ∷ []))
+      ∙ sym (append_assoc (said t) (map Got t.passed) (Got m ∷ [])) ∙ sym (append-nil _),
+  refl,
+)
 
-pub turn_grown : (input : Input) (t : Talk) (m : Backend) (passed : List Backend) → t.passed ≡ passed → Grown (heard_of t ++ Got m ∷ []) (turn input t m passed)
+pub turn_grown : (input : Input) (t : Talk) (m : Backend) (passed : List Backend) → t.passed ≡ passed
+    → Grown (heard_of t ++ Got m ∷ []) (turn input t m passed)
 turn_grown input t m [] none =
-    subst (λ (l : List Event). Grown (l ++ Got m ∷ []) (turn input t m [])) (sym (append-nil (said t)) ∙ ap (λ (ms : List Backend). said t ++ map Got ms) (sym none)) (moves_grown input t m (next_after input t.stage m) none)
+    subst (λ (l : List Event). Grown (l ++ Got m ∷ []) (turn input t m [])) (sym (append-nil (said t))
+    ∙ ap (λ (ms : List Backend). said t ++ map Got ms) (sym none))
+    (moves_grown input t m (next_after input t.stage m) none)
 turn_grown input t m (first ∷ rest) some = passing_grown input t first m (is_ready m)
 
 pub sents_gots : (es : List Event) (ms : List Backend) → sents (es ++ map Got ms) ≡ sents es

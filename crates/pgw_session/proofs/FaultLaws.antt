@@ -46,7 +46,8 @@ use Rattle.pgw_session.proofs.SentLaws.{AreSent, MaySend, due_sent}
 
 -- ---- bytes
 
-pub byte_fault : (input : Input) (taken sent : List ℕ) (why : PgWireError) → Unreadable input taken sent why → IsByteFault why
+pub byte_fault : (input : Input) (taken sent : List ℕ) (why : PgWireError) → Unreadable input taken sent why
+    → IsByteFault why
 byte_fault input taken sent why u = front_fault _ u.rest why u.next
 
 -- ---- messages that are due
@@ -68,11 +69,13 @@ body_due : (fault : Option PgWireError) (bytes : List ℕ) → DueIf fault → D
 body_due None bytes due = tt
 body_due (Some e) bytes due = due
 
-long_due : (b : Bool) (limit len : ℕ) (rest : Result (List ℕ) PgWireError) → Due rest → Due (cond b (Err (MessageTooLarge limit len)) rest)
+long_due : (b : Bool) (limit len : ℕ) (rest : Result (List ℕ) PgWireError) → Due rest
+    → Due (cond b (Err (MessageTooLarge limit len)) rest)
 long_due true limit len rest due = tt
 long_due false limit len rest due = due
 
-encoded_due : (framing : Framing) (limit : ℕ) (fault : Option PgWireError) (body : List ℕ) → DueIf fault → Due (encoded framing limit fault body)
+encoded_due : (framing : Framing) (limit : ℕ) (fault : Option PgWireError) (body : List ℕ) → DueIf fault
+    → Due (encoded framing limit fault body)
 unfolding encoded
 encoded_due framing limit fault body due = long_due (nat_lt limit _) limit _ _ (body_due fault _ due)
 
@@ -94,7 +97,8 @@ encoding_due (frontend.SslNegotiation (negotiation.PostgresGss m)) other = encod
 encoding_due (frontend.SslNegotiation negotiation.None) other = tt
 encoding_due (frontend.Startup m) other = encoded_due Untyped 10000 _ _ (refused_due _)
 encoding_due (frontend.CancelRequest m) other = absurd other
-encoding_due (frontend.PasswordMessageFamily m) other = encoded_due (Typed 112) 10000 (password_fault m) _ (password_due m)
+encoding_due (frontend.PasswordMessageFamily m) other =
+    encoded_due (Typed 112) 10000 (password_fault m) _ (password_due m)
 encoding_due (frontend.PortalSuspended m) other = encoded_due (Typed 115) 30000 None _ tt
 encoding_due (frontend.Query m) other = encoded_due (Typed 81) 1073741822 _ _ (refused_due _)
 encoding_due (frontend.Parse m) other = encoded_due (Typed 80) 1073741822 _ _ (refused_due _)
@@ -140,8 +144,10 @@ session_sends input = record {
   round = tt;
 }
 
-pub due_fault : (input : Input) (taken sent : List ℕ) (why : PgWireError) → Unsendable input taken sent why → IsDueFault why
-due_fault input taken sent why u = subst Due u.unencoded (encodings_due u.due (due_sent input NoCancel u.es u.due (session_sends input) u.legal))
+pub due_fault : (input : Input) (taken sent : List ℕ) (why : PgWireError) → Unsendable input taken sent why
+    → IsDueFault why
+due_fault input taken sent why u =
+    subst Due u.unencoded (encodings_due u.due (due_sent input NoCancel u.es u.due (session_sends input) u.legal))
 
 -- ---- the startup segment
 
@@ -149,7 +155,8 @@ abbrev StartupIf : Option ClientError → Type 0
 StartupIf None = Unit {0}
 StartupIf (Some e) = IsStartupError e
 
-first_startup : (b : Bool) (e : ClientError) (rest : Option ClientError) → IsStartupError e → StartupIf rest → StartupIf (first_of (unless_so b e) rest)
+first_startup : (b : Bool) (e : ClientError) (rest : Option ClientError) → IsStartupError e → StartupIf rest
+    → StartupIf (first_of (unless_so b e) rest)
 first_startup true e rest is more = more
 first_startup false e rest is more = is
 
@@ -161,7 +168,8 @@ unless_scram : (b : Bool) (e : ScramClientError) → IsStartupError (of_scram e)
 unless_scram true e is = tt
 unless_scram false e is = is
 
-first_scram : (b : Bool) (e : ScramClientError) (rest : Option ScramClientError) → IsStartupError (of_scram e) → ScramIf rest → ScramIf (first_of (unless_so b e) rest)
+first_scram : (b : Bool) (e : ScramClientError) (rest : Option ScramClientError) → IsStartupError (of_scram e)
+    → ScramIf rest → ScramIf (first_of (unless_so b e) rest)
 first_scram true e rest is more = more
 first_scram false e rest is more = is
 
@@ -171,29 +179,37 @@ methods_startup input methods =
     let form = option_map of_scram (unless_so has_form (scram.InvalidConfig (codes "user"))) in
     first_startup (takes_method input methods) (client.UnsupportedSASLAuthMethods methods)
     (first_of (unless_so (is_utf8 (password_of input)) (client.ScramError scram_fault.PasswordNotUtf8)) form) tt
-    (first_startup (is_utf8 (password_of input)) (client.ScramError scram_fault.PasswordNotUtf8) form tt (unless_scram has_form (scram.InvalidConfig (codes "user")) refl))
+    (first_startup (is_utf8 (password_of input)) (client.ScramError scram_fault.PasswordNotUtf8) form tt
+    (unless_scram has_form (scram.InvalidConfig (codes "user")) refl))
 
 parts_startup : (nonce : List ℕ) (r : Result ServerFirst ScramMessageFault) → ScramIf (parts_refusal nonce r)
 parts_startup nonce (Err why) = tt
 parts_startup nonce (Ok parts) =
-    first_scram (begins_with parts.nonce nonce) (scram.ScramError scram_fault.NonceMismatch) (unless_so (is_some (salt_of parts.salt)) (scram.ScramError scram_fault.SaltNotBase64)) tt
+    first_scram (begins_with parts.nonce nonce) (scram.ScramError scram_fault.NonceMismatch)
+    (unless_so (is_some (salt_of parts.salt)) (scram.ScramError scram_fault.SaltNotBase64)) tt
     (unless_scram (is_some (salt_of parts.salt)) (scram.ScramError scram_fault.SaltNotBase64) tt)
 
-proof_startup : (expected : List ℕ) (r : Result ServerFinal ScramMessageFault) → ScramIf (verifier_refusal expected r)
+proof_startup : (expected : List ℕ) (r : Result ServerFinal ScramMessageFault)
+    → ScramIf (verifier_refusal expected r)
 proof_startup expected (Err why) = tt
 proof_startup expected (Ok (Failed text)) = tt
-proof_startup expected (Ok (Signature text)) = unless_scram (bytes_eq text expected) (scram.ScramError scram_fault.SignatureMismatch) tt
+proof_startup expected (Ok (Signature text)) =
+    unless_scram (bytes_eq text expected) (scram.ScramError scram_fault.SignatureMismatch) tt
 
 refusal_startup : (input : Input) (p : LoginPlace) (m : Backend) → StartupIf (refusal_at input p m)
 refusal_startup input p (backend.ErrorResponse e) = tt
-refusal_startup input Before (backend.Authentication (authentication.SASL methods)) = methods_startup input methods
-refusal_startup input (AtFirst methods) (backend.Authentication (authentication.SASLContinue first)) = parts_startup (nonce_text input.nonce) (read_server_first first)
-refusal_startup input (AtFinal methods first) (backend.Authentication (authentication.SASLFinal final)) = proof_startup (expected_of (scram_login input methods) first) (read_server_final final)
+refusal_startup input Before (backend.Authentication (authentication.SASL methods)) =
+    methods_startup input methods
+refusal_startup input (AtFirst methods) (backend.Authentication (authentication.SASLContinue first)) =
+    parts_startup (nonce_text input.nonce) (read_server_first first)
+refusal_startup input (AtFinal methods first) (backend.Authentication (authentication.SASLFinal final)) =
+    proof_startup (expected_of (scram_login input methods) first) (read_server_final final)
 refusal_startup input Before (backend.Authentication a) = tt
 refusal_startup input (AtFirst methods) (backend.Authentication a) = tt
 refusal_startup input (AtFinal methods first) (backend.Authentication a) = tt
 refusal_startup input Behind (backend.Authentication a) = tt
 refusal_startup input p m = tt
 
-pub startup_error : (input : Input) (taken sent : List ℕ) (e : ClientError) → FailsAtStartup input taken sent e → IsStartupError e
+pub startup_error : (input : Input) (taken sent : List ℕ) (e : ClientError) → FailsAtStartup input taken sent e
+    → IsStartupError e
 startup_error input taken sent e f = subst StartupIf f.2 (refusal_startup input _ f.1)

@@ -22,7 +22,8 @@ use Rattle.pgw_session.specs.Flow.{HasNoError, CompletesNone, EndsDescribed, IsL
 
 -- ---- which messages
 
-pub placed_as_answers : (q : Request) (described : Bool) (m : Backend) → is_placed (role (kind_of q) described m) ≡ may_come q described m
+pub placed_as_answers : (q : Request) (described : Bool) (m : Backend)
+    → is_placed (role (kind_of q) described m) ≡ may_come q described m
 placed_as_answers (Simple query) true (backend.NoticeResponse m) = refl
 placed_as_answers (Simple query) true m = refl
 placed_as_answers (Simple query) false (backend.NoticeResponse m) = refl
@@ -46,7 +47,8 @@ placed_as_answers (Query query types parameters) described m = refl
 
 -- ---- what a message does to the answer
 
-pub closing_as_ends : (q : Request) (described : Bool) (m : Backend) → is_closing (role (kind_of q) described m) ≡ ends_answer q m
+pub closing_as_ends : (q : Request) (described : Bool) (m : Backend)
+    → is_closing (role (kind_of q) described m) ≡ ends_answer q m
 closing_as_ends (Simple query) true (backend.NoticeResponse m) = refl
 closing_as_ends (Simple query) true m = refl
 closing_as_ends (Simple query) false (backend.NoticeResponse m) = refl
@@ -68,7 +70,8 @@ closing_as_ends (Close (Portal name)) described m = refl
 closing_as_ends (Query query types parameters) described (backend.NoticeResponse m) = refl
 closing_as_ends (Query query types parameters) described m = refl
 
-pub completing_as_completes : (q : Request) (described : Bool) (m : Backend) → is_completing (role (kind_of q) described m) ≡ completes_portal q m
+pub completing_as_completes : (q : Request) (described : Bool) (m : Backend)
+    → is_completing (role (kind_of q) described m) ≡ completes_portal q m
 completing_as_completes (Simple query) true (backend.NoticeResponse m) = refl
 completing_as_completes (Simple query) true m = refl
 completing_as_completes (Simple query) false (backend.NoticeResponse m) = refl
@@ -90,7 +93,8 @@ completing_as_completes (Close (Portal name)) described m = refl
 completing_as_completes (Query query types parameters) described (backend.NoticeResponse m) = refl
 completing_as_completes (Query query types parameters) described m = refl
 
-pub failing_as_errors : (q : Request) (described : Bool) (m : Backend) → is_failing (role (kind_of q) described m) ≡ is_error m
+pub failing_as_errors : (q : Request) (described : Bool) (m : Backend)
+    → is_failing (role (kind_of q) described m) ≡ is_error m
 failing_as_errors (Simple query) true (backend.NoticeResponse m) = refl
 failing_as_errors (Simple query) true m = refl
 failing_as_errors (Simple query) false (backend.NoticeResponse m) = refl
@@ -117,7 +121,9 @@ abbrev rows_behind : Role → Bool → Bool
 rows_behind (Taken rows) other = rows
 rows_behind r other = other
 
-rows_as_described : (q : Request) (described : Bool) (m : Backend) → rows_behind (role (kind_of q) described m) (is_described_behind q described m) ≡ is_described_behind q described m
+rows_as_described : (q : Request) (described : Bool) (m : Backend)
+    → rows_behind (role (kind_of q) described m) (is_described_behind q described m) ≡ is_described_behind q
+    described m
 rows_as_described (Simple query) true (backend.NoticeResponse m) = refl
 rows_as_described (Simple query) true m = refl
 rows_as_described (Simple query) false (backend.NoticeResponse m) = refl
@@ -139,8 +145,11 @@ rows_as_described (Close (Portal name)) described m = refl
 rows_as_described (Query query types parameters) described (backend.NoticeResponse m) = refl
 rows_as_described (Query query types parameters) described m = refl
 
-pub taken_as_described : (q : Request) (described behind : Bool) (m : Backend) → role (kind_of q) described m ≡ Taken behind → behind ≡ is_described_behind q described m
-taken_as_described q described behind m is = subst (λ r. rows_behind r (is_described_behind q described m) ≡ is_described_behind q described m) is (rows_as_described q described m)
+pub taken_as_described : (q : Request) (described behind : Bool) (m : Backend)
+    → role (kind_of q) described m ≡ Taken behind → behind ≡ is_described_behind q described m
+taken_as_described q described behind m is =
+    subst (λ r. rows_behind r (is_described_behind q described m) ≡ is_described_behind q described m) is
+    (rows_as_described q described m)
 
 pub sync_behind_errors : (q : Request) → behind_error (kind_of q) ≡ sync_behind_error q
 sync_behind_errors (Simple query) = refl
@@ -163,7 +172,8 @@ Described rows es = ((rows ≡ true) × CompletesNone es) ⊎ EndsDescribed es
 described_behind : (e : Event) (es : List Event) → EndsDescribed es → EndsDescribed (e ∷ es)
 described_behind e es d = (e ∷ d.0, d.1, d.2, ap (λ (l : List Event). e ∷ l) d.3, d.4)
 
-described_on : (rows next : Bool) (m : Backend) (es : List Event) → role kind.Simple rows m ≡ Taken next → Described next es → Described rows (Got m ∷ es)
+described_on : (rows next : Bool) (m : Backend) (es : List Event) → role kind.Simple rows m ≡ Taken next
+    → Described next es → Described rows (Got m ∷ es)
 described_on rows next m es takes (inr d) = inr (described_behind (Got m) es d)
 described_on rows next m es takes (inl d) = go rows m takes
   where
@@ -178,15 +188,20 @@ described_on rows next m es takes (inl d) = go rows m takes
     go r x takes = absurd cc
 
 -- a row is not the message that ends an answer
-row_ends_none : (rows : Bool) (row : DataRow) (rest : List Event) → IsEnd kind.Simple (role kind.Simple rows (backend.DataRow row)) rest → ⊥
+row_ends_none : (rows : Bool) (row : DataRow) (rest : List Event)
+    → IsEnd kind.Simple (role kind.Simple rows (backend.DataRow row)) rest → ⊥
 row_ends_none true row rest ends = ends
 row_ends_none false row rest ends = ends
 
 -- nor does one stand behind it, but behind an error
-last_is_last : (rows : Bool) (last : Backend) (rest before behind : List Event) (row : DataRow) → IsEnd kind.Simple (role kind.Simple rows last) rest → HasNoError (Got last ∷ before) → rest ≡ before ++ Got (backend.DataRow row) ∷ behind → ⊥
+last_is_last : (rows : Bool) (last : Backend) (rest before behind : List Event) (row : DataRow)
+    → IsEnd kind.Simple (role kind.Simple rows last) rest → HasNoError (Got last ∷ before)
+    → rest ≡ before ++ Got (backend.DataRow row) ∷ behind → ⊥
 last_is_last rows (backend.ErrorResponse x) rest before behind row ends none is = none
-last_is_last rows (backend.ReadyForQuery x) rest [] behind row ends none is = let nil : rest ≡ [] = ends in absurd cc
-last_is_last rows (backend.ReadyForQuery x) rest (e ∷ before) behind row ends none is = let nil : rest ≡ [] = ends in absurd cc
+last_is_last rows (backend.ReadyForQuery x) rest [] behind row ends none is =
+    let nil : rest ≡ [] = ends in absurd cc
+last_is_last rows (backend.ReadyForQuery x) rest (e ∷ before) behind row ends none is =
+    let nil : rest ≡ [] = ends in absurd cc
 last_is_last true (backend.DataRow x) rest before behind row ends none is = ends
 last_is_last false (backend.DataRow x) rest before behind row ends none is = ends
 last_is_last rows last rest before behind row ends none is = ends
@@ -195,13 +210,20 @@ no_error_behind : (m : Backend) (es : List Event) → HasNoError (Got m ∷ es) 
 no_error_behind (backend.ErrorResponse m) es none = absurd none
 no_error_behind m es none = none
 
-row_described : (rows behind : Bool) (ms : List Backend) (last : Backend) (rest before after : List Event) (row : DataRow) → AreTaken kind.Simple rows ms behind → IsEnd kind.Simple (role kind.Simple behind last) rest
-    → map Got ms ++ Got last ∷ rest ≡ before ++ Got (backend.DataRow row) ∷ after → HasNoError before → Described rows before
-row_described rows behind [] last rest [] after row taken ends is none = let same : last ≡ backend.DataRow row = cc in absurd (row_ends_none behind row rest (subst (λ x. IsEnd kind.Simple (role kind.Simple behind x) rest) same ends))
+row_described : (rows behind : Bool) (ms : List Backend) (last : Backend) (rest before after : List Event)
+    (row : DataRow)
+    → AreTaken kind.Simple rows ms behind → IsEnd kind.Simple (role kind.Simple behind last) rest
+    → map Got ms ++ Got last ∷ rest ≡ before ++ Got (backend.DataRow row) ∷ after → HasNoError before
+    → Described rows before
+row_described rows behind [] last rest [] after row taken ends is none =
+    let same : last ≡ backend.DataRow row =
+    cc in absurd (row_ends_none behind row rest
+    (subst (λ x. IsEnd kind.Simple (role kind.Simple behind x) rest) same ends))
 row_described rows behind [] last rest (e ∷ before) after row taken ends is none =
     let same : e ≡ Got last = cc in
     let more : rest ≡ before ++ Got (backend.DataRow row) ∷ after = cc in
-    absurd (last_is_last behind last rest before after row ends (subst (λ x. HasNoError (x ∷ before)) same none) more)
+    absurd (last_is_last behind last rest before after row ends (subst (λ x. HasNoError (x ∷ before)) same none)
+    more)
 row_described rows behind (m ∷ ms) last rest [] after row taken ends is none =
     let same : m ≡ backend.DataRow row = cc in
     go rows (subst (λ x. role kind.Simple rows x ≡ Taken taken.0) same taken.1)
@@ -214,22 +236,30 @@ row_described rows behind (m ∷ ms) last rest (e ∷ before) after row taken en
     let more : map Got ms ++ Got last ∷ rest ≡ before ++ Got (backend.DataRow row) ∷ after = cc in
     let clean : HasNoError (Got m ∷ before) = subst (λ x. HasNoError (x ∷ before)) same none in
     subst (λ x. Described rows (x ∷ before)) (sym same)
-    (described_on rows taken.0 m before taken.1 (row_described taken.0 behind ms last rest before after row taken.2 ends more (no_error_behind m before clean)))
+    (described_on rows taken.0 m before taken.1
+    (row_described taken.0 behind ms last rest before after row taken.2 ends more
+    (no_error_behind m before clean)))
 
 described_from : (es : List Event) → Described false es → EndsDescribed es
 described_from es (inl d) = let no = d.0 in absurd cc
 described_from es (inr d) = d
 
 -- each row of a simple query stands behind a description, with no command completed since
-pub rows_are_described : (query : List ℕ) (es before behind : List Event) (row : DataRow) → IsRequestSegment (Simple query) es → es ≡ before ++ Got (backend.DataRow row) ∷ behind → HasNoError before → EndsDescribed before
+pub rows_are_described : (query : List ℕ) (es before behind : List Event) (row : DataRow)
+    → IsRequestSegment (Simple query) es → es ≡ before ++ Got (backend.DataRow row) ∷ behind → HasNoError before
+    → EndsDescribed before
 rows_are_described query es [] behind row seg is none = let first = seg.1 in absurd cc
 rows_are_described query es (e ∷ before) behind row seg is none =
     let opening = frontend.Query (record { query = query }) in
     let same : Sent opening ≡ e = let first = seg.1 in cc in
     let answer = seg.2 in
-    let more : map Got answer.ms ++ Got answer.last ∷ answer.rest ≡ before ++ Got (backend.DataRow row) ∷ behind = let first = seg.1 in let all = answer.are in cc in
+    let more : map Got answer.ms ++ Got answer.last ∷ answer.rest ≡ before ++ Got (backend.DataRow row) ∷ behind =
+    let first = seg.1 in let all = answer.are in cc in
     let clean : HasNoError before = subst (λ x. HasNoError (x ∷ before)) (sym same) none in
-    described_behind e before (described_from before (row_described false answer.behind answer.ms answer.last answer.rest before behind row answer.taken answer.ends more clean))
+    described_behind e before
+    (described_from before
+    (row_described false answer.behind answer.ms answer.last answer.rest before behind row answer.taken
+    answer.ends more clean))
 
 -- ---- how a segment ends
 
@@ -252,7 +282,8 @@ unready_quiet [] quiet = tt
 unready_quiet (m ∷ ms) quiet = unready_one m (map Got ms) quiet.0 (unready_quiet ms quiet.1)
 
 -- ReadyForQuery closes, or has no place
-ready_role : (k : Kind) (rows : Bool) (m : ReadyForQuery) → (role k rows (backend.ReadyForQuery m) ≡ Closing) ⊎ (role k rows (backend.ReadyForQuery m) ≡ Misplaced)
+ready_role : (k : Kind) (rows : Bool) (m : ReadyForQuery)
+    → (role k rows (backend.ReadyForQuery m) ≡ Closing) ⊎ (role k rows (backend.ReadyForQuery m) ≡ Misplaced)
 ready_role kind.Simple rows m = inl refl
 ready_role kind.Prepare rows m = inl refl
 ready_role kind.Bind rows m = inr refl
@@ -280,7 +311,8 @@ role_other k rows m x is goes = goes_on_other k rows m (subst GoesOn (sym is) go
 
 taken_quiet : (k : Kind) (rows behind : Bool) (ms : List Backend) → AreTaken k rows ms behind → AreAll is_other ms
 taken_quiet k rows behind [] taken = tt
-taken_quiet k rows behind (m ∷ ms) taken = (role_other k rows m (Taken taken.0) taken.1 tt, taken_quiet k taken.0 behind ms taken.2)
+taken_quiet k rows behind (m ∷ ms) taken =
+    (role_other k rows m (Taken taken.0) taken.1 tt, taken_quiet k taken.0 behind ms taken.2)
 
 -- a message that closes is the last
 closing_last : (q : Request) (rows : Bool) (m : Backend) → role (kind_of q) rows m ≡ Closing → IsLast q m
@@ -299,7 +331,8 @@ closing_last (Describe (Portal name)) rows m is = absurd cc
 closing_last (Close target) rows m is = absurd cc
 closing_last (Query query types parameters) rows m is = absurd cc
 
-ends_at_once : (q : Request) (ms : List Backend) (last : Backend) → AreAll is_other ms → IsLast q last → EndsIn q (map Sent (sends_of q) ++ (map Got ms ++ Got last ∷ []))
+ends_at_once : (q : Request) (ms : List Backend) (last : Backend) → AreAll is_other ms → IsLast q last
+    → EndsIn q (map Sent (sends_of q) ++ (map Got ms ++ Got last ∷ []))
 ends_at_once q ms last quiet is = (
   map Sent (sends_of q) ++ map Got ms,
   last,
@@ -308,34 +341,53 @@ ends_at_once q ms last quiet is = (
   is,
 )
 
-ends_ready : (q : Request) (ms : List Backend) (last : Backend) (gs : List Frontend) (rest : List Event) → AreAll is_other ms → is_other last ≡ true → IsPassedOver rest → EndsIn q (map Sent (sends_of q) ++ (map Got ms ++ Got last ∷ (map Sent gs ++ rest)))
+ends_ready : (q : Request) (ms : List Backend) (last : Backend) (gs : List Frontend) (rest : List Event)
+    → AreAll is_other ms → is_other last ≡ true → IsPassedOver rest
+    → EndsIn q (map Sent (sends_of q) ++ (map Got ms ++ Got last ∷ (map Sent gs ++ rest)))
 ends_ready q ms last gs rest quiet other up =
     let ready : List Event = Got (backend.ReadyForQuery up.ready) ∷ [] in
     let over : List Event = map Sent gs ++ map Got up.ms in
-    let inner : map Sent gs ++ rest ≡ over ++ ready = ap (λ (l : List Event). map Sent gs ++ l) up.are ∙ sym (append_assoc (map Sent gs) (map Got up.ms) ready) in
-    let middle : map Got ms ++ Got last ∷ (map Sent gs ++ rest) ≡ (map Got ms ++ Got last ∷ over) ++ ready = ap (λ (l : List Event). map Got ms ++ Got last ∷ l) inner ∙ sym (append_assoc (map Got ms) (Got last ∷ over) ready) in (
+    let inner : map Sent gs ++ rest ≡ over ++ ready =
+    ap (λ (l : List Event). map Sent gs ++ l) up.are
+    ∙ sym (append_assoc (map Sent gs) (map Got up.ms) ready) in
+    let middle : map Got ms ++ Got last ∷ (map Sent gs ++ rest) ≡ (map Got ms ++ Got last ∷ over) ++ ready =
+    ap (λ (l : List Event). map Got ms ++ Got last ∷ l) inner
+    ∙ sym (append_assoc (map Got ms) (Got last ∷ over) ready) in (
       map Sent (sends_of q) ++ (map Got ms ++ Got last ∷ over),
       backend.ReadyForQuery up.ready,
-      ap (λ (l : List Event). map Sent (sends_of q) ++ l) middle ∙ sym (append_assoc (map Sent (sends_of q)) (map Got ms ++ Got last ∷ over) ready),
-      unready_append (map Sent (sends_of q)) _ (unready_sends (sends_of q)) (unready_append (map Got ms) _ (unready_quiet ms quiet) (unready_one last over other (unready_append (map Sent gs) (map Got up.ms) (unready_sends gs) (unready_quiet up.ms up.all)))),
+      ap (λ (l : List Event). map Sent (sends_of q) ++ l) middle
+          ∙ sym (append_assoc (map Sent (sends_of q)) (map Got ms ++ Got last ∷ over) ready),
+      unready_append (map Sent (sends_of q)) _ (unready_sends (sends_of q))
+          (unready_append (map Got ms) _ (unready_quiet ms quiet)
+          (unready_one last over other
+          (unready_append (map Sent gs) (map Got up.ms) (unready_sends gs)
+          (unready_quiet up.ms up.all)))),
       tt,
     )
 
-ends_by : (q : Request) (behind : Bool) (ms : List Backend) (last : Backend) (rest : List Event) (x : Role) → role (kind_of q) behind last ≡ x → AreAll is_other ms → IsEnd (kind_of q) x rest → EndsIn q (map Sent (sends_of q) ++ (map Got ms ++ Got last ∷ rest))
+ends_by : (q : Request) (behind : Bool) (ms : List Backend) (last : Backend) (rest : List Event) (x : Role)
+    → role (kind_of q) behind last ≡ x → AreAll is_other ms → IsEnd (kind_of q) x rest
+    → EndsIn q (map Sent (sends_of q) ++ (map Got ms ++ Got last ∷ rest))
 ends_by q behind ms last rest (Taken rows) is quiet ends = absurd ends
 ends_by q behind ms last rest Misplaced is quiet ends = absurd ends
 ends_by q behind ms last rest Closing is quiet ends =
-    subst (λ (l : List Event). EndsIn q (map Sent (sends_of q) ++ (map Got ms ++ Got last ∷ l))) (sym ends) (ends_at_once q ms last quiet (closing_last q behind last is))
+    subst (λ (l : List Event). EndsIn q (map Sent (sends_of q) ++ (map Got ms ++ Got last ∷ l))) (sym ends)
+    (ends_at_once q ms last quiet (closing_last q behind last is))
 ends_by q behind ms last rest Completing is quiet ends =
-    subst (λ (l : List Event). EndsIn q (map Sent (sends_of q) ++ (map Got ms ++ Got last ∷ l))) (sym ends.1) (ends_ready q ms last (sync ∷ []) ends.0 quiet (role_other (kind_of q) behind last Completing is tt) ends.2)
+    subst (λ (l : List Event). EndsIn q (map Sent (sends_of q) ++ (map Got ms ++ Got last ∷ l))) (sym ends.1)
+    (ends_ready q ms last (sync ∷ []) ends.0 quiet (role_other (kind_of q) behind last Completing is tt)
+    ends.2)
 ends_by q behind ms last rest Failing is quiet ends =
-    subst (λ (l : List Event). EndsIn q (map Sent (sends_of q) ++ (map Got ms ++ Got last ∷ l))) (sym ends.1) (ends_ready q ms last (sends (behind_error (kind_of q))) ends.0 quiet (role_other (kind_of q) behind last Failing is tt) ends.2)
+    subst (λ (l : List Event). EndsIn q (map Sent (sends_of q) ++ (map Got ms ++ Got last ∷ l))) (sym ends.1)
+    (ends_ready q ms last (sends (behind_error (kind_of q))) ends.0 quiet
+    (role_other (kind_of q) behind last Failing is tt) ends.2)
 
 pub segment_ends : (q : Request) (es : List Event) → IsRequestSegment q es → EndsIn q es
 segment_ends q es seg =
     let a = seg.2 in
     subst (EndsIn q) (sym (seg.1 ∙ ap (λ (l : List Event). map Sent (sends_of q) ++ l) a.are))
-    (ends_by q a.behind a.ms a.last a.rest (role (kind_of q) a.behind a.last) refl (taken_quiet (kind_of q) false a.behind a.ms a.taken) a.ends)
+    (ends_by q a.behind a.ms a.last a.rest (role (kind_of q) a.behind a.last) refl
+    (taken_quiet (kind_of q) false a.behind a.ms a.taken) a.ends)
 
 -- ---- one ReadyForQuery for each Query and Sync
 
@@ -367,7 +419,8 @@ ended_none (Got (backend.ReadyForQuery m) ∷ es) unready = absurd unready
 ended_none (Got m ∷ es) unready = ended_none es unready
 
 -- an answer that closes at once
-closing_round : (q : Request) (rows : Bool) (m : Backend) → (DescribesPortal q → ⊥) → role (kind_of q) rows m ≡ Closing → rounds_asked (map Sent (sends_of q)) ≡ rounds_ended (Got m ∷ [])
+closing_round : (q : Request) (rows : Bool) (m : Backend) → (DescribesPortal q → ⊥)
+    → role (kind_of q) rows m ≡ Closing → rounds_asked (map Sent (sends_of q)) ≡ rounds_ended (Got m ∷ [])
 closing_round (Simple query) rows (backend.ReadyForQuery m) other is = refl
 closing_round (Prepare name query types) rows (backend.ReadyForQuery m) other is = refl
 closing_round (Describe (Statement name)) rows (backend.ReadyForQuery m) other is = refl
@@ -387,7 +440,8 @@ closing_round (Close target) rows m other is = absurd cc
 closing_round (Query query types parameters) rows m other is = absurd cc
 
 -- a message that completes comes where no Sync was sent
-completing_round : (q : Request) (rows : Bool) (m : Backend) → role (kind_of q) rows m ≡ Completing → rounds_asked (map Sent (sends_of q)) ≡ 0
+completing_round : (q : Request) (rows : Bool) (m : Backend) → role (kind_of q) rows m ≡ Completing
+    → rounds_asked (map Sent (sends_of q)) ≡ 0
 completing_round q rows (backend.NoticeResponse m) is = absurd cc
 completing_round (Simple query) true m is = absurd cc
 completing_round (Simple query) false m is = absurd cc
@@ -400,7 +454,8 @@ completing_round (Close target) rows m is = absurd cc
 completing_round (Query query types parameters) rows m is = absurd cc
 
 -- behind an error, one was sent
-failing_round : (q : Request) → rounds_asked (map Sent (sends_of q)) + rounds_asked (map Sent (sends (behind_error (kind_of q)))) ≡ 1
+failing_round : (q : Request)
+    → rounds_asked (map Sent (sends_of q)) + rounds_asked (map Sent (sends (behind_error (kind_of q)))) ≡ 1
 failing_round (Simple query) = refl
 failing_round (Prepare name query types) = refl
 failing_round (Bind portal statement parameters formats) = refl
@@ -414,7 +469,9 @@ failing_round (Query query types parameters) = refl
 SameRounds : List Event → Type 0
 SameRounds es = rounds_asked es ≡ rounds_ended es
 
-round_at_once : (q : Request) (ms : List Backend) (last : Backend) → AreAll is_other ms → rounds_asked (map Sent (sends_of q)) ≡ rounds_ended (Got last ∷ []) → SameRounds (map Sent (sends_of q) ++ (map Got ms ++ Got last ∷ []))
+round_at_once : (q : Request) (ms : List Backend) (last : Backend) → AreAll is_other ms
+    → rounds_asked (map Sent (sends_of q)) ≡ rounds_ended (Got last ∷ [])
+    → SameRounds (map Sent (sends_of q) ++ (map Got ms ++ Got last ∷ []))
 unfolding SameRounds
 round_at_once q ms last quiet same =
     let fs : List Event = map Sent (sends_of q) in
@@ -430,7 +487,9 @@ round_at_once q ms last quiet same =
     let h : rounds_asked end ≡ 0 = refl in
     omega arith
 
-round_through : (q : Request) (ms : List Backend) (last : Backend) (gs : List Frontend) (rest : List Event) → AreAll is_other ms → is_other last ≡ true → IsPassedOver rest → rounds_asked (map Sent (sends_of q)) + rounds_asked (map Sent gs) ≡ 1
+round_through : (q : Request) (ms : List Backend) (last : Backend) (gs : List Frontend) (rest : List Event)
+    → AreAll is_other ms → is_other last ≡ true → IsPassedOver rest
+    → rounds_asked (map Sent (sends_of q)) + rounds_asked (map Sent gs) ≡ 1
     → SameRounds (map Sent (sends_of q) ++ (map Got ms ++ Got last ∷ (map Sent gs ++ rest)))
 unfolding SameRounds
 round_through q ms last gs rest quiet other up one =
@@ -463,21 +522,28 @@ round_through q ms last gs rest quiet other up one =
     let e12 : rounds_ended end ≡ 1 = refl in
     omega arith
 
-rounds_by : (q : Request) (behind : Bool) (ms : List Backend) (last : Backend) (rest : List Event) (x : Role) → (DescribesPortal q → ⊥) → role (kind_of q) behind last ≡ x → AreAll is_other ms → IsEnd (kind_of q) x rest → SameRounds (map Sent (sends_of q) ++ (map Got ms ++ Got last ∷ rest))
+rounds_by : (q : Request) (behind : Bool) (ms : List Backend) (last : Backend) (rest : List Event) (x : Role)
+    → (DescribesPortal q → ⊥) → role (kind_of q) behind last ≡ x → AreAll is_other ms → IsEnd (kind_of q) x rest
+    → SameRounds (map Sent (sends_of q) ++ (map Got ms ++ Got last ∷ rest))
 rounds_by q behind ms last rest (Taken rows) other is quiet ends = absurd ends
 rounds_by q behind ms last rest Misplaced other is quiet ends = absurd ends
 rounds_by q behind ms last rest Closing other is quiet ends =
-    subst (λ (l : List Event). SameRounds (map Sent (sends_of q) ++ (map Got ms ++ Got last ∷ l))) (sym ends) (round_at_once q ms last quiet (closing_round q behind last other is))
+    subst (λ (l : List Event). SameRounds (map Sent (sends_of q) ++ (map Got ms ++ Got last ∷ l))) (sym ends)
+    (round_at_once q ms last quiet (closing_round q behind last other is))
 rounds_by q behind ms last rest Completing other is quiet ends =
     subst (λ (l : List Event). SameRounds (map Sent (sends_of q) ++ (map Got ms ++ Got last ∷ l))) (sym ends.1)
-    (round_through q ms last (sync ∷ []) ends.0 quiet (role_other (kind_of q) behind last Completing is tt) ends.2 (ap (λ n. n + 1) (completing_round q behind last is)))
+    (round_through q ms last (sync ∷ []) ends.0 quiet (role_other (kind_of q) behind last Completing is tt) ends.2
+    (ap (λ n. n + 1) (completing_round q behind last is)))
 rounds_by q behind ms last rest Failing other is quiet ends =
     subst (λ (l : List Event). SameRounds (map Sent (sends_of q) ++ (map Got ms ++ Got last ∷ l))) (sym ends.1)
-    (round_through q ms last (sends (behind_error (kind_of q))) ends.0 quiet (role_other (kind_of q) behind last Failing is tt) ends.2 (failing_round q))
+    (round_through q ms last (sends (behind_error (kind_of q))) ends.0 quiet
+    (role_other (kind_of q) behind last Failing is tt) ends.2 (failing_round q))
 
-pub rounds_are_answered : (q : Request) (es : List Event) → (DescribesPortal q → ⊥) → IsRequestSegment q es → rounds_asked es ≡ rounds_ended es
+pub rounds_are_answered : (q : Request) (es : List Event) → (DescribesPortal q → ⊥) → IsRequestSegment q es
+    → rounds_asked es ≡ rounds_ended es
 unfolding SameRounds
 rounds_are_answered q es other seg =
     let a = seg.2 in
     subst SameRounds (sym (seg.1 ∙ ap (λ (l : List Event). map Sent (sends_of q) ++ l) a.are))
-    (rounds_by q a.behind a.ms a.last a.rest (role (kind_of q) a.behind a.last) other refl (taken_quiet (kind_of q) false a.behind a.ms a.taken) a.ends)
+    (rounds_by q a.behind a.ms a.last a.rest (role (kind_of q) a.behind a.last) other refl
+    (taken_quiet (kind_of q) false a.behind a.ms a.taken) a.ends)

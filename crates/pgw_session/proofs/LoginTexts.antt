@@ -45,53 +45,78 @@ begins_itself : (xs : List ℕ) → begins_with xs xs ≡ true
 begins_itself xs = (starts_is Decides-eqb xs xs (begins_with xs xs) refl).1 [] (sym (append-nil xs))
 
 -- some server-first is accepted
-pub some_first : (input : Input) (login : ClientLogin) → login.nonce ≡ nonce_text input.nonce → (first : List ℕ) × (first_refusal login first ≡ None)
+pub some_first : (input : Input) (login : ClientLogin) → login.nonce ≡ nonce_text input.nonce
+    → (first : List ℕ) × (first_refusal login first ≡ None)
 some_first input login same = (
   least_server_first (nonce_text input.nonce),
   ap (option_map of_scram)
-      (ap (λ (nonce : List ℕ). parts_refusal nonce (read_server_first (least_server_first (nonce_text input.nonce)))) same
+      (ap (λ (nonce : List ℕ). parts_refusal nonce
+      (read_server_first (least_server_first (nonce_text input.nonce)))) same
       ∙ ap (parts_refusal (nonce_text input.nonce)) (nonce_is_read input.nonce)
-      ∙ ap (λ b. first_of (unless_so b (scram.ScramError scram_fault.NonceMismatch)) (unless_so (is_some (salt_of [])) (scram.ScramError scram_fault.SaltNotBase64))) (begins_itself (nonce_text input.nonce))
-      ∙ ap (λ (o : Option (List ℕ)). unless_so (is_some o) (scram.ScramError scram_fault.SaltNotBase64)) salt_of-nil),
+      ∙ ap (λ b. first_of (unless_so b (scram.ScramError scram_fault.NonceMismatch))
+      (unless_so (is_some (salt_of [])) (scram.ScramError scram_fault.SaltNotBase64)))
+      (begins_itself (nonce_text input.nonce))
+      ∙ ap (λ (o : Option (List ℕ)). unless_so (is_some o) (scram.ScramError scram_fault.SaltNotBase64))
+      salt_of-nil),
 )
 
 -- and behind it some server-final
-pub some_final : (login : ClientLogin) (first : List ℕ) → (final : List ℕ) × (final_refusal (expected_of login first) final ≡ None)
+pub some_final : (login : ClientLogin) (first : List ℕ)
+    → (final : List ℕ) × (final_refusal (expected_of login first) final ≡ None)
 some_final login first = (
   codes "v=" ++ expected_of login first,
   ap (option_map of_scram)
       (ap (verifier_refusal (expected_of login first)) (signature_is_read login first)
-      ∙ ap (λ b. unless_so b (scram.ScramError scram_fault.SignatureMismatch)) (same_bytes (expected_of login first))),
+      ∙ ap (λ b. unless_so b (scram.ScramError scram_fault.SignatureMismatch))
+      (same_bytes (expected_of login first))),
 )
 
 -- ---- what is bound
 
-end_point : (mode : ChannelBinding) (hash : List ℕ) → mode ≢ channel_binding.Disable → binding_by mode (Some hash) true ≡ binding.EndPoint hash
+end_point : (mode : ChannelBinding) (hash : List ℕ) → mode ≢ channel_binding.Disable
+    → binding_by mode (Some hash) true ≡ binding.EndPoint hash
 end_point channel_binding.Disable hash allowed = absurd (allowed refl)
 end_point channel_binding.Prefer hash allowed = refl
 end_point channel_binding.Require hash allowed = refl
 
-bound_by : (login : ClientLogin) (hash first salt : List ℕ) (parts : ServerFirst) → login.binding ≡ binding.EndPoint hash → read_server_first first ≡ Ok parts → salt_of parts.salt ≡ Some salt → BindsTo hash parts.nonce (client_final login first)
+bound_by : (login : ClientLogin) (hash first salt : List ℕ) (parts : ServerFirst)
+    → login.binding ≡ binding.EndPoint hash → read_server_first first ≡ Ok parts → salt_of parts.salt ≡ Some salt
+    → BindsTo hash parts.nonce (client_final login first)
 unfolding client_final without_proof
 bound_by login hash first salt parts is read is_salt = (
   base64 (client_proof (salted_password login.password salt parts.count) (exchanged login first parts)),
-  rw (read, is_salt) (ap (λ (b : ClientBinding). codes "c=" ++ binding_text b ++ codes ",r=" ++ parts.nonce ++ codes ",p=" ++ base64 (client_proof (salted_password login.password salt parts.count) (exchanged login first parts))) is),
+  rw (read, is_salt) (ap (λ (b : ClientBinding). codes "c=" ++ binding_text b ++ codes ",r=" ++ parts.nonce
+      ++ codes ",p=" ++ base64 (client_proof (salted_password login.password salt parts.count)
+      (exchanged login first parts))) is),
 )
 
 -- a hash is given, to bind is not forbidden, and the server offers it
-pub binds : (input : Input) (methods : List (List ℕ)) (hash : List ℕ) → (input.config).certificate_hash ≡ Some hash → (input.config).channel_binding ≢ channel_binding.Disable → offers (codes "SCRAM-SHA-256-PLUS") methods ≡ true
+pub binds : (input : Input) (methods : List (List ℕ)) (hash : List ℕ)
+    → (input.config).certificate_hash ≡ Some hash → (input.config).channel_binding ≢ channel_binding.Disable
+    → offers (codes "SCRAM-SHA-256-PLUS") methods ≡ true
     → binding_of input methods ≡ binding.EndPoint hash
 binds input methods hash own allowed offered =
     let mode = (input.config).channel_binding in
-    ap (λ (o : Option (List ℕ)). binding_by mode o (offers (codes "SCRAM-SHA-256-PLUS") methods)) own ∙ ap (binding_by mode (Some hash)) offered ∙ end_point mode hash allowed
+    ap (λ (o : Option (List ℕ)). binding_by mode o (offers (codes "SCRAM-SHA-256-PLUS") methods)) own
+    ∙ ap (binding_by mode (Some hash)) offered ∙ end_point mode hash allowed
 
-pub bound_final : (input : Input) (methods : List (List ℕ)) (hash first salt : List ℕ) (parts : ServerFirst) → (input.config).certificate_hash ≡ Some hash → (input.config).channel_binding ≢ channel_binding.Disable → offers (codes "SCRAM-SHA-256-PLUS") methods ≡ true
-    → read_server_first first ≡ Ok parts → salt_of parts.salt ≡ Some salt → BindsTo hash parts.nonce (client_final (scram_login input methods) first)
-bound_final input methods hash first salt parts own allowed offered read is_salt = bound_by (scram_login input methods) hash first salt parts (binds input methods hash own allowed offered) read is_salt
+pub bound_final : (input : Input) (methods : List (List ℕ)) (hash first salt : List ℕ) (parts : ServerFirst)
+    → (input.config).certificate_hash ≡ Some hash → (input.config).channel_binding ≢ channel_binding.Disable
+    → offers (codes "SCRAM-SHA-256-PLUS") methods ≡ true
+    → read_server_first first ≡ Ok parts → salt_of parts.salt ≡ Some salt
+    → BindsTo hash parts.nonce (client_final (scram_login input methods) first)
+bound_final input methods hash first salt parts own allowed offered read is_salt =
+    bound_by (scram_login input methods) hash first salt parts (binds input methods hash own allowed offered) read
+    is_salt
 
-pub names_end : (login : ClientLogin) (hash : List ℕ) → login.binding ≡ binding.EndPoint hash → NamesEndPoint (client_first login)
+pub names_end : (login : ClientLogin) (hash : List ℕ) → login.binding ≡ binding.EndPoint hash
+    → NamesEndPoint (client_first login)
 unfolding client_first
-names_end login hash is = (client_first_bare login.user login.nonce, ap (λ (b : ClientBinding). gs2_header b ++ client_first_bare login.user login.nonce) is)
+names_end login hash is = (
+  client_first_bare login.user login.nonce,
+  ap
+      (λ (b : ClientBinding). gs2_header b ++ client_first_bare login.user login.nonce) is,
+)
 
 -- ---- MD5
 
@@ -136,7 +161,8 @@ md5_bytes message = digest_are_bytes _ 4
 hex_clean : (bytes : List ℕ) → AreBytes bytes → has_zero (encode_with lower_digits bytes) ≡ false
 unfolding encode_with
 hex_clean [] are = refl
-hex_clean (b ∷ bytes) are = rw (digit (b / 16) (omega (arith, are.0)), digit (b % 16) (omega arith)) (hex_clean bytes are.1)
+hex_clean (b ∷ bytes) are =
+    rw (digit (b / 16) (omega (arith, are.0)), digit (b % 16) (omega arith)) (hex_clean bytes are.1)
 
 pub md5_clean : (user password salt : List ℕ) → has_zero (md5_password user password salt) ≡ false
 unfolding md5_password
@@ -148,4 +174,9 @@ pub md5_short : (user password salt : List ℕ) → length (md5_password user pa
 unfolding md5_password
 md5_short user password salt =
     let digest = md5_hex (password ++ user) ++ salt in
-    omega (arith, length-append (codes "md5") (md5_hex digest), length-encode_with lower_digits (md5 digest), length-md5 digest)
+    omega (
+      arith,
+      length-append (codes "md5") (md5_hex digest),
+      length-encode_with lower_digits (md5 digest),
+      length-md5 digest,
+    )

@@ -13,7 +13,9 @@ use Rattle.pgw_session.specs.Machine.{sending, opens_next, moves_by, passes_by, 
 use Rattle.pgw_session.specs.Talk.{Talk, Ending, between, first_passed, talk_book}
 
 abbrev pub opening : List (List Event) → List Frontend → Stage → Result (List ℕ) PgWireError → Move Talk Ending
-opening closed fs stage encoded = sending (between closed) (record { closed = closed; open_events = map Sent fs; stage = stage; passed = [] }) encoded
+opening closed fs stage encoded =
+    sending (between closed) (record { closed = closed; open_events = map Sent fs; stage = stage; passed = [] })
+    encoded
 
 abbrev pub opens : Input → List (List Event) → Option Request → Move Talk Ending
 opens input closed q = opens_next (talk_book input) (between closed) q

@@ -33,7 +33,8 @@ Fine (Err e) = IsByteFault e
 abbrev IsFine : {A : Type 0} → (List ℕ → Result A PgWireError) → Type 0
 IsFine read = (bytes : List ℕ) → Fine (read bytes)
 
-then : {A B : Type 0} (r : Result A PgWireError) (f : A → Result B PgWireError) → Fine r → ((x : A) → Fine (f x)) → Fine (r >>= f)
+then : {A B : Type 0} (r : Result A PgWireError) (f : A → Result B PgWireError) → Fine r → ((x : A) → Fine (f x))
+    → Fine (r >>= f)
 then (Ok x) f r g = g x
 then (Err e) f r g = r
 
@@ -78,13 +79,17 @@ ended_fine bytes = either (length bytes == 0) _ _ tt tt
 all_fine : {A : Type 0} (read : Result (A × List ℕ) PgWireError) → Fine read → Fine (all_of read)
 all_fine read fine = then read _ fine (λ x. then (read_end x.1) _ (ended_fine x.1) (λ u. tt))
 
-pair_fine : {A B : Type 0} (p : List ℕ → Result (A × List ℕ) PgWireError) (q : List ℕ → Result (B × List ℕ) PgWireError) → IsFine p → IsFine q → IsFine (pair_at p q)
+pair_fine : {A B : Type 0} (p : List ℕ → Result (A × List ℕ) PgWireError)
+    (q : List ℕ → Result (B × List ℕ) PgWireError)
+    → IsFine p → IsFine q → IsFine (pair_at p q)
 pair_fine p q f g bytes = then (p bytes) _ (f bytes) (λ x. then (q x.1) _ (g x.1) (λ y. tt))
 
-made_fine : {A B : Type 0} (make : A → B) (p : List ℕ → Result (A × List ℕ) PgWireError) → IsFine p → IsFine (made_at make p)
+made_fine : {A B : Type 0} (make : A → B) (p : List ℕ → Result (A × List ℕ) PgWireError) → IsFine p
+    → IsFine (made_at make p)
 made_fine make p f bytes = then (p bytes) _ (f bytes) (λ x. tt)
 
-tried_fine : {A B : Type 0} (try : A → Result B PgWireError) (p : List ℕ → Result (A × List ℕ) PgWireError) → ((x : A) → Fine (try x)) → IsFine p → IsFine (tried_at try p)
+tried_fine : {A B : Type 0} (try : A → Result B PgWireError) (p : List ℕ → Result (A × List ℕ) PgWireError)
+    → ((x : A) → Fine (try x)) → IsFine p → IsFine (tried_at try p)
 tried_fine try p t f bytes = then (p bytes) _ (f bytes) (λ x. then (try x.0) _ (t x.0) (λ y. tt))
 
 -- ---- lists
@@ -93,35 +98,49 @@ counted_fine : (count least : ℕ) → IsFine (elements_fit count least)
 unfolding elements_fit
 counted_fine count least bytes = either (nat_lt (length bytes) _) _ _ tt tt
 
-many_fine : {A : Type 0} (kind : List ℕ → Result (A × List ℕ) PgWireError) → IsFine kind → (n : ℕ) → IsFine (many_at kind n)
+many_fine : {A : Type 0} (kind : List ℕ → Result (A × List ℕ) PgWireError) → IsFine kind → (n : ℕ)
+    → IsFine (many_at kind n)
 unfolding many_at
 many_fine kind f zero bytes = tt
-many_fine kind f (suc n) bytes = then (kind bytes) _ (f bytes) (λ x. then (many_at kind n x.1) _ (many_fine kind f n x.1) (λ y. tt))
+many_fine kind f (suc n) bytes =
+    then (kind bytes) _ (f bytes) (λ x. then (many_at kind n x.1) _ (many_fine kind f n x.1) (λ y. tt))
 
-list_fine : {A : Type 0} (kind : List ℕ → Result (A × List ℕ) PgWireError) → IsFine kind → (least count : ℕ) → IsFine (list_at kind least count)
-list_fine kind f least count bytes = then (elements_fit count least bytes) _ (counted_fine count least bytes) (λ u. many_fine kind f count bytes)
+list_fine : {A : Type 0} (kind : List ℕ → Result (A × List ℕ) PgWireError) → IsFine kind → (least count : ℕ)
+    → IsFine (list_at kind least count)
+list_fine kind f least count bytes =
+    then (elements_fit count least bytes) _ (counted_fine count least bytes) (λ u. many_fine kind f count bytes)
 
-counted_list_fine : {A : Type 0} (w : Width) (least : ℕ) (kind : List ℕ → Result (A × List ℕ) PgWireError) → IsFine kind → IsFine (counted_at w least kind)
-counted_list_fine w least kind f bytes = then (int_at w bytes) _ (int_fine w bytes) (λ c. list_fine kind f least (extended_count c.0) c.1)
+counted_list_fine : {A : Type 0} (w : Width) (least : ℕ) (kind : List ℕ → Result (A × List ℕ) PgWireError)
+    → IsFine kind → IsFine (counted_at w least kind)
+counted_list_fine w least kind f bytes =
+    then (int_at w bytes) _ (int_fine w bytes) (λ c. list_fine kind f least (extended_count c.0) c.1)
 
-counted16_fine : {A : Type 0} (least : ℕ) (kind : List ℕ → Result (A × List ℕ) PgWireError) → IsFine kind → IsFine (counted16_at least kind)
-counted16_fine least kind f bytes = then (nat_at w16 bytes) _ (nat_fine w16 bytes) (λ c. list_fine kind f least c.0 c.1)
+counted16_fine : {A : Type 0} (least : ℕ) (kind : List ℕ → Result (A × List ℕ) PgWireError) → IsFine kind
+    → IsFine (counted16_at least kind)
+counted16_fine least kind f bytes =
+    then (nat_at w16 bytes) _ (nat_fine w16 bytes) (λ c. list_fine kind f least c.0 c.1)
 
-marked_fine : {A : Type 0} (more : List ℕ → Result (List A × List ℕ) PgWireError) → IsFine more → (o : Option A) → IsFine (marked more o)
+marked_fine : {A : Type 0} (more : List ℕ → Result (List A × List ℕ) PgWireError) → IsFine more → (o : Option A)
+    → IsFine (marked more o)
 marked_fine more f None rest = tt
 marked_fine more f (Some x) rest = then (more rest) _ (f rest) (λ y. tt)
 
-up_to_mark_fine : {A : Type 0} (kind : List ℕ → Result (Option A × List ℕ) PgWireError) → IsFine kind → (n : ℕ) → IsFine (up_to_mark kind n)
+up_to_mark_fine : {A : Type 0} (kind : List ℕ → Result (Option A × List ℕ) PgWireError) → IsFine kind → (n : ℕ)
+    → IsFine (up_to_mark kind n)
 unfolding up_to_mark
 up_to_mark_fine kind f zero bytes = tt
-up_to_mark_fine kind f (suc n) bytes = then (kind bytes) _ (f bytes) (λ o. marked_fine (up_to_mark kind n) (up_to_mark_fine kind f n) o.0 o.1)
+up_to_mark_fine kind f (suc n) bytes =
+    then (kind bytes) _ (f bytes) (λ o. marked_fine (up_to_mark kind n) (up_to_mark_fine kind f n) o.0 o.1)
 
-marked_list_fine : {A : Type 0} (kind : List ℕ → Result (Option A × List ℕ) PgWireError) → IsFine kind → IsFine (marked_list_at kind)
+marked_list_fine : {A : Type 0} (kind : List ℕ → Result (Option A × List ℕ) PgWireError) → IsFine kind
+    → IsFine (marked_list_at kind)
 marked_list_fine kind f bytes = up_to_mark_fine kind f (length bytes + 1) bytes
 
 code_fine : IsFine code_at
 unfolding code_at
-code_fine bytes = then (nat_at w8 bytes) _ (nat_fine w8 bytes) (λ c. either (c.0 == 0) _ _ tt (then (text_at c.1) _ (text_fine c.1) (λ t. tt)))
+code_fine bytes =
+    then (nat_at w8 bytes) _ (nat_fine w8 bytes)
+    (λ c. either (c.0 == 0) _ _ tt (then (text_at c.1) _ (text_fine c.1) (λ t. tt)))
 
 -- ---- messages
 
@@ -137,37 +156,56 @@ key_fine v bytes = either (is_no_key bytes) _ _ tt (key_by_fine v bytes)
 by_code_fine : (code : ℕ) → IsFine (by_code code)
 unfolding by_code
 by_code_fine code bytes =
-    either (code == 0) _ _ tt (either (code == 2) _ _ tt (either (code == 3) _ _ tt (either (code == 5) _ _ (made_fine _ (octets_at 4) (octets_fine 4) bytes)
-    (either (code == 10) _ _ (made_fine _ (marked_list_at name_at) (marked_list_fine name_at name_fine) bytes) (either (code == 11) _ _ (made_fine _ rest_at rest_fine bytes) (either (code == 12) _ _ (made_fine _ rest_at rest_fine bytes) tt))))))
+    either (code == 0) _ _ tt
+    (either (code == 2) _ _ tt
+    (either (code == 3) _ _ tt (either (code == 5) _ _ (made_fine _ (octets_at 4) (octets_fine 4) bytes)
+    (either (code == 10) _ _ (made_fine _ (marked_list_at name_at) (marked_list_fine name_at name_fine) bytes)
+    (either (code == 11) _ _ (made_fine _ rest_at rest_fine bytes)
+    (either (code == 12) _ _ (made_fine _ rest_at rest_fine bytes) tt))))))
 
 authentication_fine : (ctx : DecodeContext) → IsFine (authentication_of ctx)
 unfolding authentication_of
-authentication_fine ctx bytes = all_fine _ (then (nat_at w32 bytes) _ (nat_fine w32 bytes) (λ c. by_code_fine c.0 c.1))
+authentication_fine ctx bytes =
+    all_fine _ (then (nat_at w32 bytes) _ (nat_fine w32 bytes) (λ c. by_code_fine c.0 c.1))
 
 parameter_status_fine : (ctx : DecodeContext) → IsFine (parameter_status_of ctx)
 unfolding parameter_status_of
-parameter_status_fine ctx bytes = all_fine _ (made_fine _ (pair_at text_at text_at) (pair_fine text_at text_at text_fine text_fine) bytes)
+parameter_status_fine ctx bytes =
+    all_fine _ (made_fine _ (pair_at text_at text_at) (pair_fine text_at text_at text_fine text_fine) bytes)
 
 backend_key_data_fine : (ctx : DecodeContext) → IsFine (backend_key_data_of ctx)
 unfolding backend_key_data_of
 backend_key_data_fine ctx bytes =
-    all_fine _ (made_fine _ _ (pair_fine (int_at w32) (tried_at (key_of ctx.protocol_version) rest_at) (int_fine w32) (tried_fine (key_of ctx.protocol_version) rest_at (key_fine ctx.protocol_version) rest_fine)) bytes)
+    all_fine _ (made_fine _ _
+    (pair_fine (int_at w32) (tried_at (key_of ctx.protocol_version) rest_at) (int_fine w32)
+    (tried_fine (key_of ctx.protocol_version) rest_at (key_fine ctx.protocol_version) rest_fine)) bytes)
 
 negotiate_fine : (ctx : DecodeContext) → IsFine (negotiate_of ctx)
 unfolding negotiate_of
-negotiate_fine ctx bytes = all_fine _ (made_fine _ _ (pair_fine (int_at w32) (counted_at w32 1 text_at) (int_fine w32) (counted_list_fine w32 1 text_at text_fine)) bytes)
+negotiate_fine ctx bytes =
+    all_fine _ (made_fine _ _
+    (pair_fine (int_at w32) (counted_at w32 1 text_at) (int_fine w32)
+    (counted_list_fine w32 1 text_at text_fine)) bytes)
 
 ssl_fine : (ctx : DecodeContext) → IsFine (ssl_response_of ctx)
 unfolding ssl_response_of ssl_reply
-ssl_fine ctx bytes = all_fine _ (tried_fine ssl_reply (nat_at w8) (λ b. either (b == 83) _ _ tt (either (b == 78) _ _ tt tt)) (nat_fine w8) bytes)
+ssl_fine ctx bytes =
+    all_fine _ (tried_fine ssl_reply (nat_at w8) (λ b. either (b == 83) _ _ tt (either (b == 78) _ _ tt tt))
+    (nat_fine w8) bytes)
 
 gss_fine : (ctx : DecodeContext) → IsFine (gss_enc_response_of ctx)
 unfolding gss_enc_response_of gss_reply
-gss_fine ctx bytes = all_fine _ (tried_fine gss_reply (nat_at w8) (λ b. either (b == 71) _ _ tt (either (b == 78) _ _ tt tt)) (nat_fine w8) bytes)
+gss_fine ctx bytes =
+    all_fine _ (tried_fine gss_reply (nat_at w8) (λ b. either (b == 71) _ _ tt (either (b == 78) _ _ tt tt))
+    (nat_fine w8) bytes)
 
 ready_fine : (ctx : DecodeContext) → IsFine (ready_for_query_of ctx)
 unfolding ready_for_query_of status_of_byte
-ready_fine ctx bytes = all_fine _ (made_fine _ _ (tried_fine status_of_byte (nat_at w8) (λ b. either (b == 73) _ _ tt (either (b == 84) _ _ tt (either (b == 69) _ _ tt tt))) (nat_fine w8)) bytes)
+ready_fine ctx bytes =
+    all_fine _ (made_fine _ _
+    (tried_fine status_of_byte (nat_at w8)
+    (λ b. either (b == 73) _ _ tt (either (b == 84) _ _ tt (either (b == 69) _ _ tt tt))) (nat_fine w8))
+    bytes)
 
 command_complete_fine : (ctx : DecodeContext) → IsFine (command_complete_of ctx)
 unfolding command_complete_of
@@ -187,12 +225,20 @@ notice_fine ctx bytes = all_fine _ (made_fine _ codes_at codes_fine bytes)
 
 notification_fine : (ctx : DecodeContext) → IsFine (notification_response_of ctx)
 unfolding notification_response_of
-notification_fine ctx bytes = all_fine _ (made_fine _ _ (pair_fine (int_at w32) (pair_at text_at text_at) (int_fine w32) (pair_fine text_at text_at text_fine text_fine)) bytes)
+notification_fine ctx bytes =
+    all_fine _ (made_fine _ _
+    (pair_fine (int_at w32) (pair_at text_at text_at) (int_fine w32)
+    (pair_fine text_at text_at text_fine text_fine)) bytes)
 
 field_fine : IsFine field_at
 unfolding field_at
 field_fine =
-    made_fine _ _ (pair_fine text_at _ text_fine (pair_fine (int_at w32) _ (int_fine w32) (pair_fine (int_at w16) _ (int_fine w16) (pair_fine (nat_at w32) _ (nat_fine w32) (pair_fine (int_at w16) _ (int_fine w16) (pair_fine (int_at w32) (int_at w16) (int_fine w32) (int_fine w16)))))))
+    made_fine _ _ (pair_fine text_at _ text_fine
+    (pair_fine (int_at w32) _ (int_fine w32)
+    (pair_fine (int_at w16) _ (int_fine w16)
+    (pair_fine (nat_at w32) _ (nat_fine w32)
+    (pair_fine (int_at w16) _ (int_fine w16)
+    (pair_fine (int_at w32) (int_at w16) (int_fine w32) (int_fine w16)))))))
 
 row_description_fine : (ctx : DecodeContext) → IsFine (row_description_of ctx)
 unfolding row_description_of
@@ -200,11 +246,13 @@ row_description_fine ctx bytes = all_fine _ (made_fine _ _ (counted_list_fine w1
 
 data_row_fine : (ctx : DecodeContext) → IsFine (data_row_of ctx)
 unfolding data_row_of
-data_row_fine ctx bytes = all_fine _ (made_fine _ _ (pair_fine (int_at w16) rest_at (int_fine w16) rest_fine) bytes)
+data_row_fine ctx bytes =
+    all_fine _ (made_fine _ _ (pair_fine (int_at w16) rest_at (int_fine w16) rest_fine) bytes)
 
 parameter_description_fine : (ctx : DecodeContext) → IsFine (parameter_description_of ctx)
 unfolding parameter_description_of
-parameter_description_fine ctx bytes = all_fine _ (made_fine _ _ (counted16_fine 4 (nat_at w32) (nat_fine w32)) bytes)
+parameter_description_fine ctx bytes =
+    all_fine _ (made_fine _ _ (counted16_fine 4 (nat_at w32) (nat_fine w32)) bytes)
 
 copy_data_fine : (ctx : DecodeContext) → IsFine (copy_data_of ctx)
 unfolding copy_data_of
@@ -216,7 +264,11 @@ copy_fail_fine ctx bytes = all_fine _ (made_fine _ text_at text_fine bytes)
 
 columns_fine : IsFine columns_at
 unfolding columns_at
-columns_fine bytes = then (int_at w8 bytes) _ (int_fine w8 bytes) (λ f. then (int_at w16 f.1) _ (int_fine w16 f.1) (λ c. then (list_at (int_at w16) 2 (extended_count c.0) c.1) _ (list_fine (int_at w16) (int_fine w16) 2 (extended_count c.0) c.1) (λ k. tt)))
+columns_fine bytes =
+    then (int_at w8 bytes) _ (int_fine w8 bytes)
+    (λ f. then (int_at w16 f.1) _ (int_fine w16 f.1)
+    (λ c. then (list_at (int_at w16) 2 (extended_count c.0) c.1) _
+    (list_fine (int_at w16) (int_fine w16) 2 (extended_count c.0) c.1) (λ k. tt)))
 
 copy_in_fine : (ctx : DecodeContext) → IsFine (copy_in_response_of ctx)
 unfolding copy_in_response_of
@@ -264,7 +316,10 @@ copy_done_fine ctx bytes = then (read_end bytes) _ (ended_fine bytes) (λ u. tt)
 length_frame_fine : (at limit : ℕ) → IsFine (length_frame at limit)
 unfolding length_frame
 length_frame_fine at limit bytes =
-    either (nat_lt (length bytes) (at + 4)) _ _ tt (either (nat_lt limit (stated_length at bytes)) _ _ tt (either (nat_lt (stated_length at bytes) 4) _ _ tt (either (nat_lt (length bytes) (at + stated_length at bytes)) _ _ tt tt)))
+    either (nat_lt (length bytes) (at + 4)) _ _ tt
+    (either (nat_lt limit (stated_length at bytes)) _ _ tt
+    (either (nat_lt (stated_length at bytes) 4) _ _ tt
+    (either (nat_lt (length bytes) (at + stated_length at bytes)) _ _ tt tt)))
 
 -- the framings of a server's messages
 abbrev IsOfServer : Framing → Type 0
@@ -282,63 +337,97 @@ frame_fine Untyped limit of bytes = absurd of
 frame_fine (Opening code) limit of bytes = absurd of
 frame_fine Code limit of bytes = absurd of
 
-framed_fine : {M : Type 0} (read : List ℕ → Result M PgWireError) → IsFine read → (bytes : List ℕ) (o : Option (ℕ × ℕ)) → Fine (framed read bytes o)
+framed_fine : {M : Type 0} (read : List ℕ → Result M PgWireError) → IsFine read
+    → (bytes : List ℕ) (o : Option (ℕ × ℕ)) → Fine (framed read bytes o)
 framed_fine read f bytes None = tt
-framed_fine read f bytes (Some at) = then (read (slice_range bytes at.0 at.1)) _ (f (slice_range bytes at.0 at.1)) (λ m. tt)
+framed_fine read f bytes (Some at) =
+    then (read (slice_range bytes at.0 at.1)) _ (f (slice_range bytes at.0 at.1)) (λ m. tt)
 
-as_one_fine : {A : Type 0} (make : A → PgWireBackendMessage) (framing : Framing) → IsOfServer framing → (limit : ℕ) (read : List ℕ → Result A PgWireError) → IsFine read → (bytes : List ℕ) → Fine (as_one_of make (wire_front framing limit read bytes))
+as_one_fine : {A : Type 0} (make : A → PgWireBackendMessage) (framing : Framing) → IsOfServer framing
+    → (limit : ℕ) (read : List ℕ → Result A PgWireError) → IsFine read → (bytes : List ℕ)
+    → Fine (as_one_of make (wire_front framing limit read bytes))
 unfolding wire_front
-as_one_fine make framing of limit read f bytes = then (wire_front framing limit read bytes) _ (then (frame framing limit bytes) _ (frame_fine framing limit of bytes) (λ o. framed_fine read f bytes o)) (λ o. tt)
+as_one_fine make framing of limit read f bytes =
+    then (wire_front framing limit read bytes) _
+    (then (frame framing limit bytes) _ (frame_fine framing limit of bytes) (λ o. framed_fine read f bytes o))
+    (λ o. tt)
 
 copy_by_fine : (byte : ℕ) (ctx : DecodeContext) (bytes : List ℕ) → Fine (copy_by byte ctx bytes)
 copy_by_fine byte ctx bytes =
-    either (byte == 100) _ _ (as_one_fine _ (Typed 100) tt 1073741822 (copy_data_of ctx) (copy_data_fine ctx) bytes)
+    either (byte == 100) _ _
+    (as_one_fine _ (Typed 100) tt 1073741822 (copy_data_of ctx) (copy_data_fine ctx) bytes)
     (either (byte == 99) _ _ (as_one_fine _ (Typed 99) tt 10000 (copy_done_of ctx) (copy_done_fine ctx) bytes)
     (either (byte == 102) _ _ (as_one_fine _ (Typed 102) tt 10000 (copy_fail_of ctx) (copy_fail_fine ctx) bytes)
-    (either (byte == 71) _ _ (as_one_fine _ (Typed 71) tt 30000 (copy_in_response_of ctx) (copy_in_fine ctx) bytes)
-    (either (byte == 72) _ _ (as_one_fine _ (Typed 72) tt 30000 (copy_out_response_of ctx) (copy_out_fine ctx) bytes)
-    (either (byte == 87) _ _ (as_one_fine _ (Typed 87) tt 30000 (copy_both_response_of ctx) (copy_both_fine ctx) bytes) tt)))))
+    (either (byte == 71) _ _
+    (as_one_fine _ (Typed 71) tt 30000 (copy_in_response_of ctx) (copy_in_fine ctx) bytes)
+    (either (byte == 72) _ _
+    (as_one_fine _ (Typed 72) tt 30000 (copy_out_response_of ctx) (copy_out_fine ctx) bytes)
+    (either (byte == 87) _ _
+    (as_one_fine _ (Typed 87) tt 30000 (copy_both_response_of ctx) (copy_both_fine ctx) bytes) tt)))))
 
 extended_by_fine : (byte : ℕ) (ctx : DecodeContext) (bytes : List ℕ) → Fine (extended_by byte ctx bytes)
 extended_by_fine byte ctx bytes =
-    either (byte == 49) _ _ (as_one_fine _ (Typed 49) tt 30000 (parse_complete_of ctx) (parse_complete_fine ctx) bytes)
-    (either (byte == 50) _ _ (as_one_fine _ (Typed 50) tt 30000 (bind_complete_of ctx) (bind_complete_fine ctx) bytes)
-    (either (byte == 51) _ _ (as_one_fine _ (Typed 51) tt 30000 (close_complete_of ctx) (close_complete_fine ctx) bytes)
-    (either (byte == 115) _ _ (as_one_fine _ (Typed 115) tt 30000 (portal_suspended_of ctx) (suspended_fine ctx) bytes)
+    either (byte == 49) _ _
+    (as_one_fine _ (Typed 49) tt 30000 (parse_complete_of ctx) (parse_complete_fine ctx) bytes)
+    (either (byte == 50) _ _
+    (as_one_fine _ (Typed 50) tt 30000 (bind_complete_of ctx) (bind_complete_fine ctx) bytes)
+    (either (byte == 51) _ _
+    (as_one_fine _ (Typed 51) tt 30000 (close_complete_of ctx) (close_complete_fine ctx) bytes)
+    (either (byte == 115) _ _
+    (as_one_fine _ (Typed 115) tt 30000 (portal_suspended_of ctx) (suspended_fine ctx) bytes)
     (either (byte == 110) _ _ (as_one_fine _ (Typed 110) tt 30000 (no_data_of ctx) (no_data_fine ctx) bytes)
-    (either (byte == 116) _ _ (as_one_fine _ (Typed 116) tt 2147483647 (parameter_description_of ctx) (parameter_description_fine ctx) bytes) (copy_by_fine byte ctx bytes))))))
+    (either (byte == 116) _ _
+    (as_one_fine _ (Typed 116) tt 2147483647 (parameter_description_of ctx) (parameter_description_fine ctx)
+    bytes) (copy_by_fine byte ctx bytes))))))
 
 query_by_fine : (byte : ℕ) (ctx : DecodeContext) (bytes : List ℕ) → Fine (query_by byte ctx bytes)
 query_by_fine byte ctx bytes =
-    either (byte == 67) _ _ (as_one_fine _ (Typed 67) tt 30000 (command_complete_of ctx) (command_complete_fine ctx) bytes)
-    (either (byte == 73) _ _ (as_one_fine _ (Typed 73) tt 30000 (empty_query_response_of ctx) (empty_query_fine ctx) bytes)
+    either (byte == 67) _ _
+    (as_one_fine _ (Typed 67) tt 30000 (command_complete_of ctx) (command_complete_fine ctx) bytes)
+    (either (byte == 73) _ _
+    (as_one_fine _ (Typed 73) tt 30000 (empty_query_response_of ctx) (empty_query_fine ctx) bytes)
     (either (byte == 90) _ _ (as_one_fine _ (Typed 90) tt 30000 (ready_for_query_of ctx) (ready_fine ctx) bytes)
-    (either (byte == 69) _ _ (as_one_fine _ (Typed 69) tt 2147483647 (error_response_of ctx) (error_fine ctx) bytes)
-    (either (byte == 78) _ _ (as_one_fine _ (Typed 78) tt 2147483647 (notice_response_of ctx) (notice_fine ctx) bytes)
-    (either (byte == 65) _ _ (as_one_fine _ (Typed 65) tt 2147483647 (notification_response_of ctx) (notification_fine ctx) bytes)
-    (either (byte == 84) _ _ (as_one_fine _ (Typed 84) tt 2147483647 (row_description_of ctx) (row_description_fine ctx) bytes)
-    (either (byte == 68) _ _ (as_one_fine _ (Typed 68) tt 2147483647 (data_row_of ctx) (data_row_fine ctx) bytes) (extended_by_fine byte ctx bytes))))))))
+    (either (byte == 69) _ _
+    (as_one_fine _ (Typed 69) tt 2147483647 (error_response_of ctx) (error_fine ctx) bytes)
+    (either (byte == 78) _ _
+    (as_one_fine _ (Typed 78) tt 2147483647 (notice_response_of ctx) (notice_fine ctx) bytes)
+    (either (byte == 65) _ _
+    (as_one_fine _ (Typed 65) tt 2147483647 (notification_response_of ctx) (notification_fine ctx) bytes)
+    (either (byte == 84) _ _
+    (as_one_fine _ (Typed 84) tt 2147483647 (row_description_of ctx) (row_description_fine ctx) bytes)
+    (either (byte == 68) _ _ (as_one_fine _ (Typed 68) tt 2147483647 (data_row_of ctx) (data_row_fine ctx) bytes)
+    (extended_by_fine byte ctx bytes))))))))
 
 backend_by_fine : (byte : ℕ) (ctx : DecodeContext) (bytes : List ℕ) → Fine (backend_by byte ctx bytes)
 backend_by_fine byte ctx bytes =
-    either (byte == 82) _ _ (as_one_fine _ (Typed 82) tt 30000 (authentication_of ctx) (authentication_fine ctx) bytes)
-    (either (byte == 83) _ _ (as_one_fine _ (Typed 83) tt 30000 (parameter_status_of ctx) (parameter_status_fine ctx) bytes)
-    (either (byte == 75) _ _ (as_one_fine _ (Typed 75) tt 30000 (backend_key_data_of ctx) (backend_key_data_fine ctx) bytes)
-    (either (byte == 118) _ _ (as_one_fine _ (Typed 118) tt 30000 (negotiate_of ctx) (negotiate_fine ctx) bytes) (query_by_fine byte ctx bytes))))
+    either (byte == 82) _ _
+    (as_one_fine _ (Typed 82) tt 30000 (authentication_of ctx) (authentication_fine ctx) bytes)
+    (either (byte == 83) _ _
+    (as_one_fine _ (Typed 83) tt 30000 (parameter_status_of ctx) (parameter_status_fine ctx) bytes)
+    (either (byte == 75) _ _
+    (as_one_fine _ (Typed 75) tt 30000 (backend_key_data_of ctx) (backend_key_data_fine ctx) bytes)
+    (either (byte == 118) _ _ (as_one_fine _ (Typed 118) tt 30000 (negotiate_of ctx) (negotiate_fine ctx) bytes)
+    (query_by_fine byte ctx bytes))))
 
 backend_fine : (ctx : DecodeContext) → IsFine (backend_front ctx)
 unfolding backend_front
 backend_fine ctx bytes =
-    either ctx.awaiting_backend_ssl_response _ _ (as_one_fine _ OneByte tt 10000 (ssl_response_of ctx) (ssl_fine ctx) bytes)
-    (either ctx.awaiting_backend_gss_response _ _ (as_one_fine _ OneByte tt 10000 (gss_enc_response_of ctx) (gss_fine ctx) bytes)
+    either ctx.awaiting_backend_ssl_response _ _
+    (as_one_fine _ OneByte tt 10000 (ssl_response_of ctx) (ssl_fine ctx) bytes)
+    (either ctx.awaiting_backend_gss_response _ _
+    (as_one_fine _ OneByte tt 10000 (gss_enc_response_of ctx) (gss_fine ctx) bytes)
     (either (nat_lt (length bytes) 2) _ _ tt (backend_by_fine (slice_index bytes 0) ctx bytes)))
 
-bad_fine : (bytes : List ℕ) (r : Result (Option (PgWireBackendMessage × List ℕ)) PgWireError) (why : PgWireError) → Fine r → message.front_of bytes r ≡ message.Bad why → IsByteFault why
+bad_fine : (bytes : List ℕ) (r : Result (Option (PgWireBackendMessage × List ℕ)) PgWireError) (why : PgWireError)
+    → Fine r → message.front_of bytes r ≡ message.Bad why → IsByteFault why
 bad_fine bytes (Err e) why fine is = let same : e ≡ why = cc in subst IsByteFault same fine
 bad_fine bytes (Ok None) why fine is = absurd cc
 bad_fine bytes (Ok (Some x)) why fine is = absurd cc
 
 -- a refusal of a server's bytes is one of these
-pub front_fault : (v : ProtocolVersion) (bytes : List ℕ) (why : PgWireError) → message.front v bytes ≡ message.Bad why → IsByteFault why
+pub front_fault : (v : ProtocolVersion) (bytes : List ℕ) (why : PgWireError)
+    → message.front v bytes ≡ message.Bad why → IsByteFault why
 unfolding message.front
-front_fault v bytes why is = bad_fine bytes (backend_front (message.typed_phase v) bytes) why (backend_fine (message.typed_phase v) bytes) is
+front_fault v bytes why is =
+    bad_fine bytes (backend_front (message.typed_phase v) bytes) why (backend_fine (message.typed_phase v) bytes)
+    is

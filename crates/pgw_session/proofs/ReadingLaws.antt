@@ -13,13 +13,16 @@ use Rattle.pgw_session.specs.Machine.{Notebook, rules_by}
 
 -- ---- the front as the messages have it, and as a machine reads it
 
-pub reads_more : (v : ProtocolVersion) (bytes : List ℕ) → front v bytes ≡ message.More → version_front v bytes ≡ More
+pub reads_more : (v : ProtocolVersion) (bytes : List ℕ) → front v bytes ≡ message.More
+    → version_front v bytes ≡ More
 reads_more v bytes e = ap session_front e
 
-pub reads_bad : (v : ProtocolVersion) (bytes : List ℕ) (why : PgWireError) → front v bytes ≡ message.Bad why → version_front v bytes ≡ Bad why
+pub reads_bad : (v : ProtocolVersion) (bytes : List ℕ) (why : PgWireError) → front v bytes ≡ message.Bad why
+    → version_front v bytes ≡ Bad why
 reads_bad v bytes why e = ap session_front e
 
-pub reads_whole : (v : ProtocolVersion) (bytes : List ℕ) (m : Backend) (len : ℕ) → front v bytes ≡ message.Whole m len → version_front v bytes ≡ Whole m len
+pub reads_whole : (v : ProtocolVersion) (bytes : List ℕ) (m : Backend) (len : ℕ)
+    → front v bytes ≡ message.Whole m len → version_front v bytes ≡ Whole m len
 reads_whole v bytes m len e = ap session_front e
 
 met_bad : (f : message.BackendFront) (why : PgWireError) → session_front f ≡ Bad why → f ≡ message.Bad why
@@ -27,7 +30,8 @@ met_bad message.More why e = absurd cc
 met_bad (message.Bad other) why e = let same : other ≡ why = cc in ap message.Bad same
 met_bad (message.Whole m len) why e = absurd cc
 
-met_whole : (f : message.BackendFront) (m : Backend) (len : ℕ) → session_front f ≡ Whole m len → f ≡ message.Whole m len
+met_whole : (f : message.BackendFront) (m : Backend) (len : ℕ) → session_front f ≡ Whole m len
+    → f ≡ message.Whole m len
 met_whole message.More m len e = absurd cc
 met_whole (message.Bad why) m len e = absurd cc
 met_whole (message.Whole n size) m len e = let same : n ≡ m = cc in let long : size ≡ len = cc in cc
@@ -39,8 +43,11 @@ steady v = record {
   none = reads_more v [] (front_nil v);
   within = λ bytes m len e. (front_whole v bytes m len (met_whole (front v bytes) m len e)).1;
   whole = λ bytes more m len e.
-      reads_whole v (take len bytes ++ more) m len (front_whole_more v (take len bytes) more m len (front_take v bytes m len (met_whole (front v bytes) m len e)));
-  bad = λ bytes more why e. reads_bad v (bytes ++ more) why (front_bad_more v bytes more why (met_bad (front v bytes) why e));
+      reads_whole v (take len bytes ++ more) m len
+      (front_whole_more v (take len bytes) more m len
+      (front_take v bytes m len (met_whole (front v bytes) m len e)));
+  bad = λ bytes more why e. reads_bad v (bytes ++ more) why
+      (front_bad_more v bytes more why (met_bad (front v bytes) why e));
 }
 
 pub steady_by : {N : Type 0} (book : Notebook N) (input : Input) → IsSteady (rules_by book input)

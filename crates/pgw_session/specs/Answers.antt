@@ -27,21 +27,30 @@ response_of (Some opened) tag = response.Query (tag_of tag) opened.fields opened
 -- a row is one of the open result, or else of the portal
 abbrev pub with_row : Option Opened → Tally → DataRow → Tally
 with_row None t row = record t { rows = t.rows ++ row ∷ [] }
-with_row (Some opened) t row = record t { opened = Some (record opened { rows = opened.rows ++ row ∷ [] }) }
+with_row (Some opened) t row =
+    record t { opened = Some (record opened { rows = opened.rows ++ row ∷ [] }) }
 
 -- a portal ends with the rows up to then, if it has not ended before
-abbrev pub with_end : Option (ExecuteResult (List DataRow)) → Tally → ExecuteResult (List DataRow) → Tally
+abbrev pub with_end : Option (ExecuteResult (List DataRow)) → Tally → ExecuteResult (List DataRow)
+    → Tally
 with_end None t result = record t { executed = Some result; rows = [] }
 with_end (Some first) t result = t
 
 -- A RowDescription opens a result, and drops an open one; CommandComplete closes it. Of parameters the last
 -- description stays.
 abbrev pub tally_with : Tally → Backend → Tally
-tally_with t (backend.RowDescription m) = record t { opened = Some (record { fields = map field_info_of m.fields; rows = [] }) }
+tally_with t (backend.RowDescription m) =
+    record t { opened = Some (record { fields = map field_info_of m.fields; rows = [] }) }
 tally_with t (backend.ParameterDescription m) = record t { param_types = map type_of m.types }
 tally_with t (backend.DataRow m) = with_row t.opened t m
-tally_with t (backend.CommandComplete m) = with_end t.executed (record t { responses = t.responses ++ response_of t.opened m.tag ∷ []; opened = None }) (execute.Complete t.rows)
-tally_with t (backend.EmptyQueryResponse m) = with_end t.executed (record t { responses = t.responses ++ response.EmptyQuery ∷ [] }) (execute.Complete t.rows)
+tally_with t (backend.CommandComplete m) =
+    with_end t.executed (record t {
+      responses = t.responses ++ response_of t.opened m.tag ∷ [];
+      opened = None;
+    }) (execute.Complete t.rows)
+tally_with t (backend.EmptyQueryResponse m) =
+    with_end t.executed (record t { responses = t.responses ++ response.EmptyQuery ∷ [] })
+    (execute.Complete t.rows)
 tally_with t (backend.PortalSuspended m) = with_end t.executed t (execute.Suspended t.rows)
 tally_with t (backend.ErrorResponse m) = record t { remote = Some m }
 tally_with t m = t
@@ -55,7 +64,16 @@ abbrev pub tally_after : Tally → Backend → Tally
 tally_after t m = noted_unless t.remote t m
 
 abbrev pub no_tally : Tally
-no_tally = record { responses = []; opened = None; param_types = []; rows = []; executed = None; remote = None }
+no_tally =
+    record {
+      responses = [];
+      opened = None;
+      param_types = [];
+      rows = [];
+      executed = None;
+      remote =
+          None;
+    }
 
 abbrev pub tally_at : Tally → Event → Tally
 tally_at t (Sent m) = t
@@ -83,10 +101,12 @@ last_columns (Some opened) = opened.fields
 -- what a request gives where no error came
 abbrev pub result_of : Request → Tally → Answer
 result_of (request.Simple query) t = answer.Responses t.responses
-result_of (request.Prepare name query types) t = answer.Prepared (record { name = name; param_types = t.param_types })
+result_of (request.Prepare name query types) t =
+    answer.Prepared (record { name = name; param_types = t.param_types })
 result_of (request.Bind portal statement parameters formats) t = answer.Bound
 result_of (request.Execute portal max_rows) t = answer.Executed (executed_of t.executed)
-result_of (request.Describe target) t = answer.Described (record { param_types = t.param_types; fields = last_columns t.opened })
+result_of (request.Describe target) t =
+    answer.Described (record { param_types = t.param_types; fields = last_columns t.opened })
 result_of (request.Close target) t = answer.Closed
 result_of (request.Query query types parameters) t = answer.Rows (rows_until t.executed ++ t.rows)
 

@@ -37,7 +37,8 @@ binding_first opening = frontend.PasswordMessageFamily (family.SASLInitialRespon
 }))
 
 abbrev pub binding_last : List ℕ → Frontend
-binding_last last = frontend.PasswordMessageFamily (family.SASLResponse (record { payload = last }))
+binding_last last =
+    frontend.PasswordMessageFamily (family.SASLResponse (record { payload = last }))
 
 -- server and client exchange these texts, by the method that binds
 abbrev pub bound_exchange : List (List ℕ) → List ℕ → List ℕ → List ℕ → List ℕ → List Event

@@ -63,7 +63,8 @@ is_row_without q described m = false
 abbrev pub may_come : Request → Bool → Backend → Bool
 may_come q described m =
     not (is_row_without q described m)
-    && (is_taken_besides q m || (is_asynchronous m || (is_error m || list_any (is_answer_to m) (sends_of q))))
+    && (is_taken_besides q m ||
+    (is_asynchronous m || (is_error m || list_any (is_answer_to m) (sends_of q))))
 
 -- a message that is taken, or ends the answer
 abbrev pub is_placed : Role → Bool
@@ -96,7 +97,8 @@ is_last_answer_to m f = false
 -- Where a portal is described, this client takes ReadyForQuery too, for the end.
 abbrev pub ends_answer : Request → Backend → Bool
 ends_answer (request.Describe (Portal name)) (backend.ReadyForQuery m) = true
-ends_answer q m = if awaits_ready q then is_ready m else list_any (is_last_answer_to m) (sends_of q)
+ends_answer q m =
+    if awaits_ready q then is_ready m else list_any (is_last_answer_to m) (sends_of q)
 
 -- A portal that was executed is completed by CommandComplete, or by EmptyQueryResponse where its query was empty.
 abbrev pub completes_portal : Request → Backend → Bool
@@ -144,7 +146,9 @@ CompletesNone (e ∷ es) = CompletesNone es
 
 -- a description was got, and no command was completed since
 abbrev pub EndsDescribed : List Event → Type 0
-EndsDescribed es = (earlier : List Event) × (m : RowDescription) × (since : List Event) × (es ≡ earlier ++ Got (backend.RowDescription m) ∷ since) × CompletesNone since
+EndsDescribed es =
+    (earlier : List Event) × (m : RowDescription) × (since : List Event)
+    × (es ≡ earlier ++ Got (backend.RowDescription m) ∷ since) × CompletesNone since
 
 -- ---- how a segment ends
 
@@ -159,7 +163,9 @@ IsLast q m = ⊥
 
 -- events without ReadyForQuery, and the last message
 abbrev pub EndsIn : Request → List Event → Type 0
-EndsIn q es = (before : List Event) × (last : Backend) × (es ≡ before ++ Got last ∷ []) × IsUnready before × IsLast q last
+EndsIn q es =
+    (before : List Event) × (last : Backend) × (es ≡ before ++ Got last ∷ []) × IsUnready before
+    × IsLast q last
 
 -- how many Query and Sync were sent, each of which the server answers with one ReadyForQuery
 abbrev pub rounds_asked : List Event → ℕ

@@ -41,14 +41,16 @@ abbrev pub scram_user : Input → List ℕ
 scram_user input = unwrap_or (saslprep (user_of input)) []
 
 abbrev pub password_message : List ℕ → Frontend
-password_message text = frontend.PasswordMessageFamily (family.Password (record { password = text }))
+password_message text =
+    frontend.PasswordMessageFamily (family.Password (record { password = text }))
 
 -- the password in clear text, read as UTF-8, lossily
 abbrev pub cleartext_message : Input → Frontend
 cleartext_message input = password_message (lossy (password_of input))
 
 abbrev pub md5_message : Input → List ℕ → Frontend
-md5_message input salt = password_message (md5_password (user_of input) (lossy (password_of input)) salt)
+md5_message input salt =
+    password_message (md5_password (user_of input) (lossy (password_of input)) salt)
 
 -- the server offers a method of this name
 abbrev pub offers : List ℕ → List (List ℕ) → Bool
@@ -63,7 +65,9 @@ binding_by mode (Some hash) true = binding.EndPoint hash
 binding_by mode (Some hash) false = binding.NotOffered
 
 abbrev pub binding_of : Input → List (List ℕ) → ClientBinding
-binding_of input methods = binding_by (input.config).channel_binding (input.config).certificate_hash (offers (codes "SCRAM-SHA-256-PLUS") methods)
+binding_of input methods =
+    binding_by (input.config).channel_binding (input.config).certificate_hash
+    (offers (codes "SCRAM-SHA-256-PLUS") methods)
 
 -- a login is required to be bound
 abbrev pub is_required : ChannelBinding → Bool
@@ -81,11 +85,20 @@ takes_by channel_binding.Prefer has_hash binds plain = (has_hash && binds) || pl
 takes_by channel_binding.Require has_hash binds plain = has_hash && binds
 
 abbrev pub takes_method : Input → List (List ℕ) → Bool
-takes_method input methods = takes_by (input.config).channel_binding (is_some (input.config).certificate_hash) (offers (codes "SCRAM-SHA-256-PLUS") methods) (offers (codes "SCRAM-SHA-256") methods)
+takes_method input methods =
+    takes_by (input.config).channel_binding (is_some (input.config).certificate_hash)
+    (offers (codes "SCRAM-SHA-256-PLUS") methods) (offers (codes "SCRAM-SHA-256") methods)
 
 -- who logs in by SCRAM, where the server offers these methods
 abbrev pub scram_login : Input → List (List ℕ) → ClientLogin
-scram_login input methods = record { binding = binding_of input methods; user = scram_user input; password = password_of input; nonce = nonce_text input.nonce }
+scram_login input methods =
+    record {
+      binding = binding_of input methods;
+      user = scram_user input;
+      password = password_of
+          input;
+      nonce = nonce_text input.nonce;
+    }
 
 -- the method that binds, where the login is bound
 abbrev pub method_of : ClientBinding → List ℕ
@@ -93,10 +106,18 @@ method_of (binding.EndPoint hash) = codes "SCRAM-SHA-256-PLUS"
 method_of b = codes "SCRAM-SHA-256"
 
 abbrev pub first_message : ClientLogin → Frontend
-first_message login = frontend.PasswordMessageFamily (family.SASLInitialResponse (record { auth_method = method_of login.binding; payload = Some (client_first login) }))
+first_message login =
+    frontend.PasswordMessageFamily
+    (family.SASLInitialResponse
+    (record {
+      auth_method = method_of login.binding;
+      payload = Some (client_first login);
+    }))
 
 abbrev pub final_message : ClientLogin → List ℕ → Frontend
-final_message login first = frontend.PasswordMessageFamily (family.SASLResponse (record { payload = client_final login first }))
+final_message login first =
+    frontend.PasswordMessageFamily
+    (family.SASLResponse (record { payload = client_final login first }))
 
 -- ---- what of the server's is refused
 
@@ -104,7 +125,8 @@ final_message login first = frontend.PasswordMessageFamily (family.SASLResponse 
 abbrev pub methods_refusal : Input → List (List ℕ) → Option ClientError
 methods_refusal input methods =
     first_of (unless_so (takes_method input methods) (client.UnsupportedSASLAuthMethods methods))
-    (first_of (unless_so (is_utf8 (password_of input)) (client.ScramError scram_fault.PasswordNotUtf8))
+    (first_of (unless_so (is_utf8 (password_of input))
+    (client.ScramError scram_fault.PasswordNotUtf8))
     (option_map of_scram (user_refusal (saslprep (user_of input)))))
 
 -- server-first outside its grammar; or its nonce does not begin with the client's; or its salt is none
@@ -129,14 +151,23 @@ pub data SessionLogin : Type 0 where
 
 abbrev pub login_events : Input → SessionLogin → List Event
 login_events input Unasked = []
-login_events input Cleartext = Got (backend.Authentication authentication.CleartextPassword) ∷ Sent (cleartext_message input) ∷ []
-login_events input (Md5 salt) = Got (backend.Authentication (authentication.MD5Password salt)) ∷ Sent (md5_message input salt) ∷ []
+login_events input Cleartext =
+    Got (backend.Authentication authentication.CleartextPassword) ∷ Sent (cleartext_message input)
+    ∷ []
+login_events input (Md5 salt) =
+    Got (backend.Authentication (authentication.MD5Password salt)) ∷ Sent (md5_message input salt)
+    ∷ []
 login_events input (Scram methods first final) =
-    Got (backend.Authentication (authentication.SASL methods)) ∷ Sent (first_message (scram_login input methods))
-    ∷ Got (backend.Authentication (authentication.SASLContinue first)) ∷ Sent (final_message (scram_login input methods) first)
+    Got (backend.Authentication (authentication.SASL methods)) ∷ Sent
+    (first_message (scram_login input methods))
+    ∷ Got (backend.Authentication (authentication.SASLContinue first)) ∷ Sent
+    (final_message (scram_login input methods) first)
     ∷ Got (backend.Authentication (authentication.SASLFinal final)) ∷ []
 
 -- nothing of the server's is refused; and a login is by SCRAM where it must be bound
 abbrev pub IsAccepted : Input → SessionLogin → Type 0
-IsAccepted input (Scram methods first final) = (methods_refusal input methods ≡ None) × (first_refusal (scram_login input methods) first ≡ None) × (final_refusal (expected_of (scram_login input methods) first) final ≡ None)
+IsAccepted input (Scram methods first final) =
+    (methods_refusal input methods ≡ None)
+    × (first_refusal (scram_login input methods) first ≡ None)
+    × (final_refusal (expected_of (scram_login input methods) first) final ≡ None)
 IsAccepted input login = must_bind input ≡ false

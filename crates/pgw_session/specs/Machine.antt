@@ -82,11 +82,16 @@ open_request input (suc k) = slice_get input.requests k
 -- the next request is opened; where there is none, the session is whole
 abbrev pub opens_next : {N : Type 0} → Notebook N → N → Option Request → Move N (End N)
 opens_next book n None = stopped n Complete
-opens_next book n (Some q) = sending n (book.opens n (sends_of q) (stage_for q)) (encodings (sends_of q))
+opens_next book n (Some q) =
+    sending n (book.opens n (sends_of q) (stage_for q)) (encodings (sends_of q))
 
 abbrev pub moves_by : {N : Type 0} → Notebook N → Input → N → Backend → Next → Move N (End N)
-moves_by book input n m (Goes stage reply) = sending (book.takes n m [] stage) (book.takes n m (sends reply) stage) (encodings (sends reply))
-moves_by book input n m Closes = opens_next book (book.closes n m (open_request input (book.closed n))) (slice_get input.requests (book.closed n))
+moves_by book input n m (Goes stage reply) =
+    sending (book.takes n m [] stage) (book.takes n m (sends reply) stage)
+    (encodings (sends reply))
+moves_by book input n m Closes =
+    opens_next book (book.closes n m (open_request input (book.closed n)))
+    (slice_get input.requests (book.closed n))
 moves_by book input n m Wrong = stopped n (Unexpected m)
 moves_by book input n m (Refuses e) = stopped n (Refused e)
 moves_by book input n m PassesOver = On (book.passes n m) []
@@ -96,7 +101,8 @@ abbrev pub passes_by : {N : Type 0} → Notebook N → N → Backend → Backend
 passes_by book n first m true = stopped n (Unexpected first)
 passes_by book n first m false = On (book.passes n m) []
 
-abbrev pub turn_by : {N : Type 0} → Notebook N → Input → N → Backend → Option Backend → Move N (End N)
+abbrev pub turn_by : {N : Type 0} → Notebook N → Input → N → Backend → Option Backend
+    → Move N (End N)
 turn_by book input n m None = moves_by book input n m (next_after input (book.stage n) m)
 turn_by book input n m (Some first) = passes_by book n first m (is_ready m)
 
@@ -109,4 +115,6 @@ rules_by book input = record {
 
 -- before the first byte: the startup message is sent
 abbrev pub beginning_by : {N : Type 0} → Notebook N → Input → N → Course N (End N)
-beginning_by book input n = onto [] (sending n (book.opens n (startup_message input ∷ []) Starting) (encodings (startup_message input ∷ [])))
+beginning_by book input n =
+    onto [] (sending n (book.opens n (startup_message input ∷ []) Starting)
+    (encodings (startup_message input ∷ [])))

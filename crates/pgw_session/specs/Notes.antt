@@ -30,17 +30,40 @@ notes_book = record {
   first_passed = λ n. n.first_passed;
   standing = λ n. n.standing;
   opens = λ n fs stage. record n { stage = stage };
-  takes = λ n m fs stage. record n { stage = stage; standing = standing_by n.standing m; tally = tally_after n.tally m };
-  closes = λ n m q. record n { stage = Starting; standing = standing_by n.standing m; tally = no_tally; answers = n.answers ++ answer_for q (tally_after n.tally m); closed = suc n.closed };
-  passes = λ n m. record n { standing = standing_by n.standing m; first_passed = first_or n.first_passed m };
+  takes =
+      λ n m fs stage. record n
+      { stage = stage; standing = standing_by n.standing m; tally = tally_after n.tally m };
+  closes =
+      λ n m q. record n {
+        stage = Starting;
+        standing = standing_by n.standing m;
+        tally = no_tally;
+        answers = n.answers ++ answer_for q (tally_after n.tally m);
+        closed = suc n.closed;
+      };
+  passes =
+      λ n m. record n {
+        standing = standing_by n.standing m;
+        first_passed = first_or n.first_passed m;
+      };
 }
 
 abbrev pub first_notes : Input → Notes
-first_notes input = record { stage = Starting; standing = first_standing input.config; tally = no_tally; answers = []; closed = 0; first_passed = None }
+first_notes input =
+    record {
+      stage = Starting;
+      standing = first_standing input.config;
+      tally = no_tally;
+      answers =
+          [];
+      closed = 0;
+      first_passed = None;
+    }
 
 -- what a client notes of the bytes
 unfoldable pub noted_of : Input → List ℕ → Course Notes (End Notes)
-noted_of input bytes = run (rules_by notes_book input) (beginning_by notes_book input (first_notes input)) bytes
+noted_of input bytes =
+    run (rules_by notes_book input) (beginning_by notes_book input (first_notes input)) bytes
 
 -- what it notes of a conversation
 abbrev pub view : Input → Talk → Notes

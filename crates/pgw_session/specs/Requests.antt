@@ -37,17 +37,35 @@ describe_statement name = frontend.Describe (record { target_type = 83; name = n
 
 abbrev pub sends_of : Request → List Frontend
 sends_of (Simple query) = frontend.Query (record { query = query }) ∷ []
-sends_of (Prepare name query types) = frontend.Parse (record { name = name; query = query; type_oids = types }) ∷ describe_statement name ∷ sync ∷ []
+sends_of (Prepare name query types) =
+    frontend.Parse (record { name = name; query = query; type_oids = types }) ∷ describe_statement
+    name ∷ sync ∷ []
 sends_of (Bind portal statement parameters formats) =
-    frontend.Bind (record { portal_name = portal; statement_name = statement; parameter_format_codes = []; parameters = parameters; result_column_format_codes = formats }) ∷ flush ∷ []
-sends_of (Execute portal max_rows) = frontend.Execute (record { name = portal; max_rows = max_rows }) ∷ flush ∷ []
+    frontend.Bind (record {
+      portal_name = portal;
+      statement_name = statement;
+      parameter_format_codes = [];
+      parameters = parameters;
+      result_column_format_codes = formats;
+    }) ∷ flush ∷ []
+sends_of (Execute portal max_rows) =
+    frontend.Execute (record { name = portal; max_rows = max_rows }) ∷ flush ∷ []
 sends_of (Describe (Statement name)) = describe_statement name ∷ sync ∷ []
-sends_of (Describe (Portal name)) = frontend.Describe (record { target_type = 80; name = name }) ∷ flush ∷ []
-sends_of (Close (Statement name)) = frontend.Close (record { target_type = 83; name = name }) ∷ sync ∷ []
-sends_of (Close (Portal name)) = frontend.Close (record { target_type = 80; name = name }) ∷ sync ∷ []
+sends_of (Describe (Portal name)) =
+    frontend.Describe (record { target_type = 80; name = name }) ∷ flush ∷ []
+sends_of (Close (Statement name)) =
+    frontend.Close (record { target_type = 83; name = name }) ∷ sync ∷ []
+sends_of (Close (Portal name)) =
+    frontend.Close (record { target_type = 80; name = name }) ∷ sync ∷ []
 sends_of (Query query types parameters) =
     frontend.Parse (record { name = None; query = query; type_oids = types })
-    ∷ frontend.Bind (record { portal_name = None; statement_name = None; parameter_format_codes = []; parameters = parameters; result_column_format_codes = [] })
+    ∷ frontend.Bind (record {
+      portal_name = None;
+      statement_name = None;
+      parameter_format_codes = [];
+      parameters = parameters;
+      result_column_format_codes = [];
+    })
     ∷ frontend.Execute (record { name = None; max_rows = pos 0 }) ∷ sync ∷ []
 
 -- what is sent right behind an error: Sync, where the opening has none and the server awaits it

@@ -58,7 +58,10 @@ with_set name None held = held
 with_set name (Some value) held = finite.insert held name value
 
 abbrev pub startup_parameters : Input → Held
-startup_parameters input = with_set (codes "database") (input.config).dbname (with_set (codes "user") (input.config).user (with_set (codes "application_name") (input.config).application_name finite.empty))
+startup_parameters input =
+    with_set (codes "database") (input.config).dbname
+    (with_set (codes "user") (input.config).user
+    (with_set (codes "application_name") (input.config).application_name finite.empty))
 
 -- the startup message: the configured version, and application name, user and database where they are set (StartupMessage)
 abbrev pub startup_message : Input → Frontend
@@ -76,7 +79,8 @@ is_known (Some version) = true
 abbrev pub is_news : Backend → Bool
 is_news (backend.Authentication authentication.Ok) = true
 is_news (backend.BackendKeyData m) = true
-is_news (backend.NegotiateProtocolVersion m) = is_known (negotiated_version m.newest_minor_protocol)
+is_news (backend.NegotiateProtocolVersion m) =
+    is_known (negotiated_version m.newest_minor_protocol)
 is_news m = is_asynchronous m
 
 -- before a login block: AuthenticationOk is not among it where a login must be bound
@@ -86,7 +90,9 @@ is_early bound m = is_news m
 
 -- the startup message, and what a server may say before a login block
 abbrev pub IsBegun : Input → List Event → Type 0
-IsBegun input es = (news : List Backend) × (es ≡ Sent (startup_message input) ∷ map Got news) × AreAll (is_early (must_bind input)) news
+IsBegun input es =
+    (news : List Backend) × (es ≡ Sent (startup_message input) ∷ map Got news)
+    × AreAll (is_early (must_bind input)) news
 
 -- what a server says behind the startup message: news, one login block, and news up to ReadyForQuery
 pub record IsGreeting (input : Input) (es : List Event) : Type 0 where
@@ -99,7 +105,8 @@ pub record IsGreeting (input : Input) (es : List Event) : Type 0 where
   pub ends : IsUpToReady is_news rest
 
 abbrev pub IsStartupSegment : Input → List Event → Type 0
-IsStartupSegment input es = (answer : List Event) × (es ≡ Sent (startup_message input) ∷ answer) × IsGreeting input answer
+IsStartupSegment input es =
+    (answer : List Event) × (es ≡ Sent (startup_message input) ∷ answer) × IsGreeting input answer
 
 -- ---- the segments of requests
 
@@ -110,14 +117,16 @@ sends (Some m) = m ∷ []
 -- messages that the row takes, one after the other, and whether rows may come behind them
 abbrev pub AreTaken : Kind → Bool → List Backend → Bool → Type 0
 AreTaken k rows [] behind = rows ≡ behind
-AreTaken k rows (m ∷ ms) behind = (next : Bool) × (role k rows m ≡ Taken next) × AreTaken k next ms behind
+AreTaken k rows (m ∷ ms) behind =
+    (next : Bool) × (role k rows m ≡ Taken next) × AreTaken k next ms behind
 
 -- what stands behind the message that ends them
 abbrev pub IsEnd : Kind → Role → List Event → Type 0
 IsEnd k (Taken rows) es = ⊥
 IsEnd k Closing es = es ≡ []
 IsEnd k Completing es = (rest : List Event) × (es ≡ Sent sync ∷ rest) × IsPassedOver rest
-IsEnd k Failing es = (rest : List Event) × (es ≡ map Sent (sends (behind_error k)) ++ rest) × IsPassedOver rest
+IsEnd k Failing es =
+    (rest : List Event) × (es ≡ map Sent (sends (behind_error k)) ++ rest) × IsPassedOver rest
 IsEnd k Misplaced es = ⊥
 
 -- what a server answers to a request: messages that are taken, and one that ends them
@@ -132,7 +141,9 @@ pub record IsAnswer (k : Kind) (rows : Bool) (es : List Event) : Type 0 where
 
 -- the segment of a request
 abbrev pub IsRequestSegment : Request → List Event → Type 0
-IsRequestSegment q es = (answer : List Event) × (es ≡ map Sent (sends_of q) ++ answer) × IsAnswer (kind_of q) false answer
+IsRequestSegment q es =
+    (answer : List Event) × (es ≡ map Sent (sends_of q) ++ answer)
+    × IsAnswer (kind_of q) false answer
 
 -- the events begin with a simple query
 abbrev pub IsSimple : List Event → Type 0

@@ -42,20 +42,28 @@ unless_bound true next = Wrong
 unless_bound false next = next
 
 abbrev pub by_login : Input → Backend → Next
-by_login input (backend.Authentication authentication.CleartextPassword) = unless_bound (must_bind input) (Goes Admitted (Some (cleartext_message input)))
-by_login input (backend.Authentication (authentication.MD5Password salt)) = unless_bound (must_bind input) (Goes Admitted (Some (md5_message input salt)))
-by_login input (backend.Authentication (authentication.SASL methods)) = next_unless (methods_refusal input methods) (Goes (Challenged (scram_login input methods)) (Some (first_message (scram_login input methods))))
+by_login input (backend.Authentication authentication.CleartextPassword) =
+    unless_bound (must_bind input) (Goes Admitted (Some (cleartext_message input)))
+by_login input (backend.Authentication (authentication.MD5Password salt)) =
+    unless_bound (must_bind input) (Goes Admitted (Some (md5_message input salt)))
+by_login input (backend.Authentication (authentication.SASL methods)) =
+    next_unless (methods_refusal input methods)
+    (Goes (Challenged (scram_login input methods))
+    (Some (first_message (scram_login input methods))))
 by_login input (backend.ReadyForQuery m) = unless_bound (must_bind input) Closes
 by_login input m = by_welcome m
 
 -- within a SCRAM login
 abbrev pub by_first : ClientLogin → Backend → Next
-by_first login (backend.Authentication (authentication.SASLContinue first)) = next_unless (first_refusal login first) (Goes (Proving (expected_of login first)) (Some (final_message login first)))
+by_first login (backend.Authentication (authentication.SASLContinue first)) =
+    next_unless (first_refusal login first)
+    (Goes (Proving (expected_of login first)) (Some (final_message login first)))
 by_first login (backend.ErrorResponse e) = Refuses (client.RemoteError e)
 by_first login m = Wrong
 
 abbrev pub by_final : List ℕ → Backend → Next
-by_final expected (backend.Authentication (authentication.SASLFinal final)) = next_unless (final_refusal expected final) (Goes Admitted None)
+by_final expected (backend.Authentication (authentication.SASLFinal final)) =
+    next_unless (final_refusal expected final) (Goes Admitted None)
 by_final expected (backend.ErrorResponse e) = Refuses (client.RemoteError e)
 by_final expected m = Wrong
 

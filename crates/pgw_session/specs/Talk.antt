@@ -41,10 +41,28 @@ talk_book input = record {
   closed = λ t. length t.closed;
   first_passed = λ t. first_passed t.passed;
   standing = λ t. standing_of input.config (heard_of t);
-  opens = λ t fs stage. record { closed = t.closed; open_events = t.open_events ++ map Sent fs; stage = stage; passed = t.passed };
-  takes = λ t m fs stage. record { closed = t.closed; open_events = t.open_events ++ Got m ∷ map Sent fs; stage = stage; passed = [] };
+  opens =
+      λ t fs stage. record {
+        closed = t.closed;
+        open_events = t.open_events ++ map Sent fs;
+        stage = stage;
+        passed = t.passed;
+      };
+  takes =
+      λ t m fs stage. record {
+        closed = t.closed;
+        open_events = t.open_events ++ Got m ∷ map Sent fs;
+        stage = stage;
+        passed = [];
+      };
   closes = λ t m q. between (t.closed ++ (t.open_events ++ Got m ∷ []) ∷ []);
-  passes = λ t m. record { closed = t.closed; open_events = t.open_events; stage = t.stage; passed = t.passed ++ m ∷ [] };
+  passes =
+      λ t m. record {
+        closed = t.closed;
+        open_events = t.open_events;
+        stage = t.stage;
+        passed = t.passed ++ m ∷ [];
+      };
 }
 
 abbrev pub Ending : Type 0

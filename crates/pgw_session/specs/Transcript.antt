@@ -26,7 +26,8 @@ AreSegments (q ∷ qs) [] = ⊥
 -- the startup segment and then one segment for each request
 abbrev pub IsTranscript : Input → List (List Event) → Type 0
 IsTranscript input [] = ⊥
-IsTranscript input (startup ∷ segments) = IsStartupSegment input startup × AreSegments input.requests segments
+IsTranscript input (startup ∷ segments) =
+    IsStartupSegment input startup × AreSegments input.requests segments
 
 -- the messages that open a segment: number 0 is the startup segment, and the requests' follow
 abbrev pub segment_opening : Option Request → List Frontend
@@ -45,11 +46,13 @@ pub record IsTranscriptPart (input : Input) (es : List Event) : Type 0 where
   pub later : List (List Event)
   pub are : es ≡ all_events closed ++ part
   pub transcript : IsTranscript input (closed ++ (part ++ rest) ∷ later)
-  pub opening : (part ≡ []) ⊎ ((more : List Event) × (part ≡ map Sent (opening_at input (length closed)) ++ more))
+  pub opening : (part ≡ [])
+      ⊎ ((more : List Event) × (part ≡ map Sent (opening_at input (length closed)) ++ more))
 
 -- a joined list
 abbrev pub IsJoined : Input → List Event → Type 0
-IsJoined input es = (segments : List (List Event)) × IsTranscript input segments × (all_events segments ≡ es)
+IsJoined input es =
+    (segments : List (List Event)) × IsTranscript input segments × (all_events segments ≡ es)
 
 -- nothing at all, or what stands before a login block, whether or not this client can log in
 abbrev pub IsEarly : Input → List Event → Type 0
@@ -65,7 +68,9 @@ IsLegalPrefix input es = IsJoined input es ⊎ (IsTranscriptPart input es ⊎ Is
 abbrev pub SpellsGot : Standing → List Event → List ℕ → Type 0
 SpellsGot s [] bytes = bytes ≡ []
 SpellsGot s (Sent m ∷ es) bytes = SpellsGot s es bytes
-SpellsGot s (Got m ∷ es) bytes = (front rest : List ℕ) × (bytes ≡ front ++ rest) × Spells s.version m front × SpellsGot (standing_by s m) es rest
+SpellsGot s (Got m ∷ es) bytes =
+    (front rest : List ℕ) × (bytes ≡ front ++ rest) × Spells s.version m front
+    × SpellsGot (standing_by s m) es rest
 
 -- the bytes are the encodings of the messages sent, one after the other
 abbrev pub EncodesSent : List Event → List ℕ → Type 0
@@ -75,11 +80,22 @@ EncodesSent es bytes = encodings (sents es) ≡ Ok bytes
 
 -- what the client was told, and some answers
 abbrev pub report_with : Standing → List Answer → SessionReport
-report_with s answers = record { version = s.version; parameters = s.parameters; process_id = s.process_id; secret_key = s.secret_key; status = s.status; answers = answers }
+report_with s answers =
+    record {
+      version = s.version;
+      parameters = s.parameters;
+      process_id = s.process_id;
+      secret_key
+          = s.secret_key;
+      status = s.status;
+      answers = answers;
+    }
 
 -- each answer is that of a request's own segment, in order
 unfoldable pub report_of : Input → List (List Event) → SessionReport
-report_of input segments = report_with (standing_of input.config (all_events segments)) (answers_of input.requests (drop 1 segments))
+report_of input segments =
+    report_with (standing_of input.config (all_events segments))
+    (answers_of input.requests (drop 1 segments))
 
 -- A completed session: the bytes taken begin with spellings of the messages got, those put out encode those sent,
 -- together they are a transcript for that input, and the report is its fold.
@@ -94,7 +110,8 @@ pub record Completed (input : Input) (taken sent : List ℕ) (report : SessionRe
   pub reported : report ≡ report_of input segments
 
 -- The bytes to come begin with bytes, within the limit, that complete a transcript with these segments.
-pub record Completes (input : Input) (limit : ℕ) (left : List ℕ) (segments : List (List Event)) : Type 0 where
+pub record Completes (input : Input) (limit : ℕ) (left : List ℕ) (segments : List (List Event)) :
+    Type 0 where
   pub transcript : IsTranscript input segments
   pub bytes : List ℕ
   pub more : List ℕ

@@ -25,7 +25,10 @@ parameter_size name (Some value) = length name + length value + 2
 
 -- The bytes of the startup message: its length and the version, 4 bytes each; the parameters; and a zero byte (StartupMessage).
 abbrev pub startup_size : Input → ℕ
-startup_size input = parameter_size (codes "application_name") (input.config).application_name + parameter_size (codes "user") (input.config).user + parameter_size (codes "database") (input.config).dbname + 9
+startup_size input =
+    parameter_size (codes "application_name") (input.config).application_name + parameter_size
+    (codes "user") (input.config).user + parameter_size (codes "database")
+    (input.config).dbname + 9
 
 -- so many bytes and the length field, which is 4 bytes, are within the limit
 abbrev pub FitsLimit : ℕ → List ℕ → Type 0
@@ -36,16 +39,26 @@ IsValidName n = IfSome n HasNoZero
 
 -- no text has a zero byte, nothing is counted above 65535, and the message is within its limit
 abbrev pub IsValidMessage : Frontend → Type 0
-IsValidMessage (frontend.PasswordMessageFamily (family.Password m)) = HasNoZero m.password × FitsLimit 10000 (text m.password)
-IsValidMessage (frontend.PasswordMessageFamily (family.SASLInitialResponse m)) = (0 < length m.auth_method) × HasNoZero m.auth_method × FitsLimit 10000 (initial_response m)
-IsValidMessage (frontend.PasswordMessageFamily (family.SASLResponse m)) = FitsLimit 10000 m.payload
+IsValidMessage (frontend.PasswordMessageFamily (family.Password m)) =
+    HasNoZero m.password × FitsLimit 10000 (text m.password)
+IsValidMessage (frontend.PasswordMessageFamily (family.SASLInitialResponse m)) =
+    (0 < length m.auth_method) × HasNoZero m.auth_method × FitsLimit 10000 (initial_response m)
+IsValidMessage (frontend.PasswordMessageFamily (family.SASLResponse m)) =
+    FitsLimit 10000 m.payload
 IsValidMessage (frontend.Query m) = HasNoZero m.query × FitsLimit 1073741822 (text m.query)
-IsValidMessage (frontend.Parse m) = IsValidName m.name × HasNoZero m.query × (length m.type_oids ≤ 65535) × FitsLimit 1073741822 (parse m)
+IsValidMessage (frontend.Parse m) =
+    IsValidName m.name × HasNoZero m.query × (length m.type_oids ≤ 65535)
+    × FitsLimit 1073741822 (parse m)
 IsValidMessage (frontend.Bind m) =
-    IsValidName m.portal_name × IsValidName m.statement_name × (length m.parameter_format_codes ≤ 65535) × (length m.parameters ≤ 65535) × (length m.result_column_format_codes ≤ 65535) × FitsLimit 1073741822 (bind m)
-IsValidMessage (frontend.Execute m) = IsValidName m.name × FitsLimit 10000 (name m.name ++ i32 m.max_rows)
-IsValidMessage (frontend.Describe m) = IsValidName m.name × FitsLimit 10000 (m.target_type ∷ name m.name)
-IsValidMessage (frontend.Close m) = IsValidName m.name × FitsLimit 10000 (m.target_type ∷ name m.name)
+    IsValidName m.portal_name × IsValidName m.statement_name
+    × (length m.parameter_format_codes ≤ 65535) × (length m.parameters ≤ 65535)
+    × (length m.result_column_format_codes ≤ 65535) × FitsLimit 1073741822 (bind m)
+IsValidMessage (frontend.Execute m) =
+    IsValidName m.name × FitsLimit 10000 (name m.name ++ i32 m.max_rows)
+IsValidMessage (frontend.Describe m) =
+    IsValidName m.name × FitsLimit 10000 (m.target_type ∷ name m.name)
+IsValidMessage (frontend.Close m) =
+    IsValidName m.name × FitsLimit 10000 (m.target_type ∷ name m.name)
 IsValidMessage (frontend.Flush m) = Unit {0}
 IsValidMessage (frontend.Sync m) = Unit {0}
 IsValidMessage m = ⊥
@@ -61,7 +74,8 @@ IsValidRequest q = AreValid (sends_of q)
 -- is above its limit
 pub record IsValidInput (input : Input) : Type 0 where
   pub encryption : (input.config).ssl_mode ≢ ssl_mode.Require
-  pub binding : (input.config).channel_binding ≡ channel_binding.Require → is_some (input.config).certificate_hash ≡ true
+  pub binding : (input.config).channel_binding ≡ channel_binding.Require
+      → is_some (input.config).certificate_hash ≡ true
   pub application_name : IfSome (input.config).application_name HasNoZero
   pub user : IfSome (input.config).user HasNoZero
   pub database : IfSome (input.config).dbname HasNoZero
@@ -71,7 +85,8 @@ pub record IsValidInput (input : Input) : Type 0 where
 -- How a client logs in is as the server asks: with nothing, with the password as text, with its MD5, or with SCRAM, whose
 -- last text is as long as the server makes it. What it logs in with can be sent.
 abbrev pub IsLoginValid : Frontend → Type 0
-IsLoginValid (frontend.PasswordMessageFamily m) = IsValidMessage (frontend.PasswordMessageFamily m)
+IsLoginValid (frontend.PasswordMessageFamily m) =
+    IsValidMessage (frontend.PasswordMessageFamily m)
 IsLoginValid m = Unit {0}
 
 abbrev pub CanLogIn : List Frontend → Type 0

@@ -26,13 +26,16 @@ three_is n m e = elim (chosen (eqb n 3) _ _ _ e) [
   | inr h ↦ absurd cc
 ]
 
-pub made_some : {A B : Type 0} (make : A → B) (p : List ℕ → Result (A × List ℕ) PgWireError) (P : A → List ℕ → Type 0) → ReadsLast p P → ReadsLast (made_at make p) (λ y bytes. (x : A) × P x bytes × (make x ≡ y))
+pub made_some : {A B : Type 0} (make : A → B) (p : List ℕ → Result (A × List ℕ) PgWireError)
+    (P : A → List ℕ → Type 0)
+    → ReadsLast p P → ReadsLast (made_at make p) (λ y bytes. (x : A) × P x bytes × (make x ≡ y))
 made_some {A} {B} make p P hp = record {
   found = λ bytes y rest fits e.
       let a = bind_ok (p bytes) (λ x. Ok (make x.0, x.1)) (y, rest) e in
       let s = hp.found bytes a.0.0 a.0.1 fits a.1 in
       let made : B × List ℕ = (make a.0.0, a.0.1) in
-      subst (λ (z : B × List ℕ). (wire_front : List ℕ) × (bytes ≡ wire_front ++ z.1) × ((x : A) × P x wire_front × (make x ≡ z.0))) (ok_is made (y, rest) a.2)
+      subst (λ (z : B × List ℕ). (wire_front : List ℕ) × (bytes ≡ wire_front ++ z.1) ×
+      ((x : A) × P x wire_front × (make x ≡ z.0))) (ok_is made (y, rest) a.2)
       (s.0, s.1, (a.0.0, s.2, refl));
   only = λ y wire_front h. rw (hp.only h.0 wire_front h.1, h.2) refl;
 }
@@ -41,20 +44,31 @@ Major : ℕ → List ℕ → Type 0
 Major n bytes = (x : ℕ) × (three x ≡ Ok n) × SpellsNat w16 x bytes
 
 Parts : Startup → List ℕ → Type 0
-Parts m = Pair Major (Pair (SpellsNat w16) SpellsPairs) (m.protocol_number_major, (m.protocol_number_minor, m.parameters))
+Parts m =
+    Pair Major (Pair (SpellsNat w16) SpellsPairs)
+    (m.protocol_number_major, (m.protocol_number_minor, m.parameters))
 
-parts_reads : ReadsLast (made_at startup_from (pair_at (tried_at three (nat_at w16)) (pair_at (nat_at w16) (made_at from_pairs (marked_list_at param_at))))) Parts
+parts_reads : ReadsLast
+    (made_at startup_from
+    (pair_at (tried_at three (nat_at w16))
+    (pair_at (nat_at w16) (made_at from_pairs (marked_list_at param_at))))) Parts
 unfolding Parts Major
-parts_reads = made_last startup_from (λ m. (m.protocol_number_major, (m.protocol_number_minor, m.parameters))) _ _ (λ x. refl) (λ y. refl)
-    (pair_last (tried_at three (nat_at w16)) (λ n bytes. (x : ℕ) × (three x ≡ Ok n) × SpellsNat w16 x bytes) _ _ (tried_some three (nat_at w16) (SpellsNat w16) (nat_reads w16))
-    (pair_last (nat_at w16) (SpellsNat w16) (made_at from_pairs (marked_list_at param_at)) SpellsPairs (nat_reads w16)
+parts_reads =
+    made_last startup_from (λ m. (m.protocol_number_major, (m.protocol_number_minor, m.parameters))) _ _
+    (λ x. refl) (λ y. refl)
+    (pair_last (tried_at three (nat_at w16)) (λ n bytes. (x : ℕ) × (three x ≡ Ok n) × SpellsNat w16 x bytes) _ _
+    (tried_some three (nat_at w16) (SpellsNat w16) (nat_reads w16))
+    (pair_last (nat_at w16) (SpellsNat w16) (made_at from_pairs (marked_list_at param_at)) SpellsPairs
+    (nat_reads w16)
     (made_some from_pairs (marked_list_at param_at) (SpellsMarked SpellsPair) (reads_last _ _ pairs_reads))))
 
-pairs_least : (pairs : List (List ℕ × List ℕ)) (bytes : List ℕ) → SpellsMarked SpellsPair pairs bytes → 1 ≤ length bytes
+pairs_least : (pairs : List (List ℕ × List ℕ)) (bytes : List ℕ) → SpellsMarked SpellsPair pairs bytes
+    → 1 ≤ length bytes
 pairs_least [] bytes h = omega (arith, ap length h.1, length-append h.0 (0 ∷ []))
 pairs_least (x ∷ xs) bytes h = omega (arith, ap length h.2, length-append h.0 h.1, pairs_least xs h.1 h.4)
 
-startup_body : (ctx : DecodeContext) (body : List ℕ) (m : Startup) → length body < 2 ^ 31 → startup_of ctx body ≡ Ok m → SpellsStartup m body
+startup_body : (ctx : DecodeContext) (body : List ℕ) (m : Startup) → length body < 2 ^ 31
+    → startup_of ctx body ≡ Ok m → SpellsStartup m body
 unfolding startup_of Parts Major
 startup_body ctx body m short e = elim (chosen (ltb (length body) 5) _ _ _ e) [
   | inl h ↦ absurd cc
@@ -64,19 +78,34 @@ startup_body ctx body m short e = elim (chosen (ltb (length body) 5) _ _ _ e) [
       (t.0, (p.0, p.1, p.2, subst (λ (n : ℕ). SpellsNat w16 n p.0) (sym t.1) p.3.2, p.4))
 ]
 
-startup_body_again : (ctx : DecodeContext) (body : List ℕ) (m : Startup) → SpellsStartup m body → startup_of ctx body ≡ Ok m
+startup_body_again : (ctx : DecodeContext) (body : List ℕ) (m : Startup) → SpellsStartup m body
+    → startup_of ctx body ≡ Ok m
 unfolding startup_of three Parts Major
 startup_body_again ctx body m h =
     let parts = h.1 in
     let more = parts.4 in
     let least : 1 ≤ length more.1 = pairs_least more.4.0 more.1 more.4.1 in
-    let long : ltb (length body) 5 ≡ false = le-ltb _ _ (omega (arith, ap length parts.2, length-append parts.0 parts.1, parts.3.0, ap length more.2, length-append more.0 more.1, more.3.0, least)) in
+    let long : ltb (length body) 5 ≡ false =
+    le-ltb _ _ (omega (
+      arith,
+      ap length parts.2,
+      length-append parts.0 parts.1,
+      parts.3.0,
+      ap length more.2,
+      length-append more.0 more.1,
+      more.3.0,
+      least,
+    )) in
     let is : eqb m.protocol_number_major 3 ≡ true = eq-eqb _ _ h.0 in
     let tried : three m.protocol_number_major ≡ Ok m.protocol_number_major = rw is refl in
-    rw long (all_again _ Parts parts_reads body m (parts.0, parts.1, parts.2, (m.protocol_number_major, tried, parts.3), parts.4))
+    rw long (all_again _ Parts parts_reads body m
+    (parts.0, parts.1, parts.2, (m.protocol_number_major, tried, parts.3), parts.4))
 
-pub startup_found : (ctx : DecodeContext) (bytes : List ℕ) (m : Startup) (rest : List ℕ) → wire_front Untyped 10000 (startup_of ctx) bytes ≡ Ok (Some (m, rest)) → (g : List ℕ) × (bytes ≡ g ++ rest) × SpellsUntyped 10000 SpellsStartup m g
+pub startup_found : (ctx : DecodeContext) (bytes : List ℕ) (m : Startup) (rest : List ℕ)
+    → wire_front Untyped 10000 (startup_of ctx) bytes ≡ Ok (Some (m, rest))
+    → (g : List ℕ) × (bytes ≡ g ++ rest) × SpellsUntyped 10000 SpellsStartup m g
 startup_found ctx = untyped_found 10000 (startup_of ctx) (lit< tt) SpellsStartup (startup_body ctx)
 
-pub startup_again : (ctx : DecodeContext) (m : Startup) (g rest : List ℕ) → SpellsUntyped 10000 SpellsStartup m g → wire_front Untyped 10000 (startup_of ctx) (g ++ rest) ≡ Ok (Some (m, rest))
+pub startup_again : (ctx : DecodeContext) (m : Startup) (g rest : List ℕ) → SpellsUntyped 10000 SpellsStartup m g
+    → wire_front Untyped 10000 (startup_of ctx) (g ++ rest) ≡ Ok (Some (m, rest))
 startup_again ctx = untyped_again 10000 (startup_of ctx) (lit< tt) SpellsStartup (startup_body_again ctx)

@@ -29,13 +29,18 @@ positive : (n : ℕ) → eqb n 0 ≡ false → 0 < n
 positive n h = omega (arith, eqb-false n 0 h)
 
 method_written : (t : List ℕ) → IsUtf8 t → is_method_refused t ≡ false → SpellsName (Some t) (text t)
-method_written t utf8 fine = let p = or_parts (eqb (length t) 0) (has_zero t) fine in (text_written t p.1 utf8, positive (length t) p.0)
+method_written t utf8 fine =
+    let p = or_parts (eqb (length t) 0) (has_zero t) fine in (text_written t p.1 utf8, positive (length t) p.0)
 
-pub authentication_written : (m : Authentication) → IsAuthentication m → authentication_fault m ≡ None → SpellsAuthentication m (authentication m)
+pub authentication_written : (m : Authentication) → IsAuthentication m → authentication_fault m ≡ None
+    → SpellsAuthentication m (authentication m)
 authentication_written auth.Ok sound fine = (u32 0, [], sym (append-nil (u32 0)), code_written 0 (lit< tt), refl)
-authentication_written auth.KerberosV5 sound fine = (u32 2, [], sym (append-nil (u32 2)), code_written 2 (lit< tt), refl)
-authentication_written auth.CleartextPassword sound fine = (u32 3, [], sym (append-nil (u32 3)), code_written 3 (lit< tt), refl)
-authentication_written (auth.MD5Password salt) sound fine = (u32 5, salt, refl, code_written 5 (lit< tt), (refl, four (length salt) (unrefused _ fine)))
+authentication_written auth.KerberosV5 sound fine =
+    (u32 2, [], sym (append-nil (u32 2)), code_written 2 (lit< tt), refl)
+authentication_written auth.CleartextPassword sound fine =
+    (u32 3, [], sym (append-nil (u32 3)), code_written 3 (lit< tt), refl)
+authentication_written (auth.MD5Password salt) sound fine =
+    (u32 5, salt, refl, code_written 5 (lit< tt), (refl, four (length salt) (unrefused _ fine)))
   where
     four : (n : ℕ) → not (eqb n 4) ≡ false → n ≡ 4
     four n h = eqb-true n 4 (negated (eqb n 4) h)
@@ -43,35 +48,59 @@ authentication_written (auth.MD5Password salt) sound fine = (u32 5, salt, refl, 
         negated : (b : Bool) → not b ≡ false → b ≡ true
         negated true h = refl
         negated false h = absurd cc
-authentication_written (auth.SASL methods) sound fine = (u32 10, flat_map text methods ++ 0 ∷ [], append_assoc (u32 10) (flat_map text methods) (0 ∷ []), code_written 10 (lit< tt), marked_written SpellsName text (0 ∷ []) IsUtf8 is_method_refused end_written method_written methods sound (unrefused _ fine))
-authentication_written (auth.SASLContinue bytes) sound fine = (u32 11, bytes, refl, code_written 11 (lit< tt), refl)
+authentication_written (auth.SASL methods) sound fine = (
+  u32 10,
+  flat_map text methods ++ 0 ∷ [],
+  append_assoc (u32 10) (flat_map text methods) (0 ∷ []),
+  code_written
+      10 (lit< tt),
+  marked_written SpellsName text (0 ∷ []) IsUtf8 is_method_refused end_written method_written
+      methods sound (unrefused _ fine),
+)
+authentication_written (auth.SASLContinue bytes) sound fine =
+    (u32 11, bytes, refl, code_written 11 (lit< tt), refl)
 authentication_written (auth.SASLFinal bytes) sound fine = (u32 12, bytes, refl, code_written 12 (lit< tt), refl)
 
-pub parameter_status_written : (m : ParameterStatus) → IsParameterStatus m → parameter_status_fault m ≡ None → SpellsParameterStatus m (parameter_status m)
+pub parameter_status_written : (m : ParameterStatus) → IsParameterStatus m → parameter_status_fault m ≡ None
+    → SpellsParameterStatus m (parameter_status m)
 parameter_status_written m sound fine =
     let p = or_parts (has_zero m.name) (has_zero m.value) (unrefused _ fine) in
     (text m.name, text m.value, refl, text_written m.name p.0 sound.0, text_written m.value p.1 sound.1)
 
-pub backend_key_data_written : (v : ProtocolVersion) (m : BackendKeyData) → IsBackendKeyData m → SuitsKey v m.secret_key → key_fault m.secret_key ≡ None → SpellsBackendKeyData v m (backend_key_data m)
-backend_key_data_written v m sound suits fine = (i32 m.pid, key_bytes m.secret_key, refl, i32_written m.pid sound.0, key_written v m.secret_key sound.1 suits fine)
+pub backend_key_data_written : (v : ProtocolVersion) (m : BackendKeyData) → IsBackendKeyData m
+    → SuitsKey v m.secret_key → key_fault m.secret_key ≡ None → SpellsBackendKeyData v m (backend_key_data m)
+backend_key_data_written v m sound suits fine = (
+  i32 m.pid,
+  key_bytes m.secret_key,
+  refl,
+  i32_written m.pid sound.0,
+  key_written v m.secret_key sound.1 suits
+      fine,
+)
 
 count_written : (n : ℕ) → n < 2 ^ 31 → SpellsInt w32 (pos n) (u32 n)
 unfolding u32
-count_written n small = let fits : FitsSigned w32 (pos n) = omega (arith, ints, small) in int_written w32 wide32 (pos n) fits
+count_written n small =
+    let fits : FitsSigned w32 (pos n) = omega (arith, ints, small) in int_written w32 wide32 (pos n) fits
 
-pub negotiate_written : (m : NegotiateProtocolVersion) → IsNegotiate m → refused_if (is_options_refused m.unsupported_options) ≡ None → SpellsNegotiate m (negotiate m)
+pub negotiate_written : (m : NegotiateProtocolVersion) → IsNegotiate m
+    → refused_if (is_options_refused m.unsupported_options) ≡ None → SpellsNegotiate m (negotiate m)
 negotiate_written m sound fine =
-    let p = or_parts (ltb 2147483647 (length m.unsupported_options)) (list_any has_zero m.unsupported_options) (unrefused _ fine) in
+    let p =
+    or_parts (ltb 2147483647 (length m.unsupported_options)) (list_any has_zero m.unsupported_options)
+    (unrefused _ fine) in
     let few : length m.unsupported_options < 2 ^ 31 = omega (arith, ltb-false _ _ p.0) in (
       i32 m.newest_minor_protocol,
       u32 (length m.unsupported_options) ++ flat_map text m.unsupported_options,
-      append_assoc (i32 m.newest_minor_protocol) (u32 (length m.unsupported_options)) (flat_map text m.unsupported_options),
+      append_assoc (i32 m.newest_minor_protocol) (u32 (length m.unsupported_options))
+          (flat_map text m.unsupported_options),
       i32_written m.newest_minor_protocol sound.0,
       (
         u32 (length m.unsupported_options),
         flat_map text m.unsupported_options,
         refl,
         count_written (length m.unsupported_options) few,
-        many_written SpellsText text IsUtf8 has_zero (λ t utf8 none. text_written t none utf8) m.unsupported_options sound.1 p.1,
+        many_written SpellsText text IsUtf8 has_zero (λ t utf8 none. text_written t none utf8)
+            m.unsupported_options sound.1 p.1,
       ),
     )

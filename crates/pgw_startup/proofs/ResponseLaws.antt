@@ -20,27 +20,35 @@ use Rattle.pgw_startup.specs.Response.{ssl_byte, gss_byte, ssl_reply, gss_reply,
 
 -- ---- one byte
 
-front_byte : {M : Type 0} (read : List ℕ → Result M PgWireError) (b : ℕ) (r : List ℕ) → wire_front OneByte 10000 read (b ∷ r) ≡ (read (b ∷ []) >>= λ x. Ok (Some (x, r)))
+front_byte : {M : Type 0} (read : List ℕ → Result M PgWireError) (b : ℕ) (r : List ℕ)
+    → wire_front OneByte 10000 read (b ∷ r) ≡ (read (b ∷ []) >>= λ x. Ok (Some (x, r)))
 unfolding wire_front frame
 front_byte read b r =
     let some : eqb (length (b ∷ r)) 0 ≡ false = ne_eqb (length (b ∷ r)) 0 (λ is. omega (arith, is)) in
     rw some refl
 
-module _ {M : Type 0} (p : List ℕ → Result (M × List ℕ) PgWireError) (P : M → List ℕ → Type 0) (law : ReadsLast p P) (one : (m : M) (g : List ℕ) → P m g → length g ≡ 1) where
-  reply_found : (bytes : List ℕ) (m : M) (rest : List ℕ) → wire_front OneByte 10000 (λ body. all_of (p body)) bytes ≡ Ok (Some (m, rest)) → (g : List ℕ) × (bytes ≡ g ++ rest) × P m g
+module _ {M : Type 0} (p : List ℕ → Result (M × List ℕ) PgWireError) (P : M → List ℕ → Type 0)
+    (law : ReadsLast p P) (one : (m : M) (g : List ℕ) → P m g → length g ≡ 1) where
+  reply_found : (bytes : List ℕ) (m : M) (rest : List ℕ)
+      → wire_front OneByte 10000 (λ body. all_of (p body)) bytes ≡ Ok (Some (m, rest))
+      → (g : List ℕ) × (bytes ≡ g ++ rest) × P m g
   unfolding wire_front frame
   reply_found [] m rest e = absurd cc
   reply_found (b ∷ r) m rest e =
-      let whole : (all_of (p (b ∷ [])) >>= λ x. Ok (Some (x, r))) ≡ Ok (Some (m, rest)) = sym (front_byte (λ body. all_of (p body)) b r) ∙ e in
+      let whole : (all_of (p (b ∷ [])) >>= λ x. Ok (Some (x, r))) ≡ Ok (Some (m, rest)) =
+      sym (front_byte (λ body. all_of (p body)) b r) ∙ e in
       let a = bind_ok (all_of (p (b ∷ []))) (λ x. Ok (Some (x, r))) (Some (m, rest)) whole in
       let made : M × List ℕ = (a.0, r) in
-      subst (λ (y : M × List ℕ). (g : List ℕ) × (b ∷ r ≡ g ++ y.1) × P y.0 g) (some_is made (m, rest) a.2) (b ∷ [], refl, all_found p P law (b ∷ []) a.0 (lit< tt) a.1)
+      subst (λ (y : M × List ℕ). (g : List ℕ) × (b ∷ r ≡ g ++ y.1) × P y.0 g) (some_is made (m, rest) a.2)
+      (b ∷ [], refl, all_found p P law (b ∷ []) a.0 (lit< tt) a.1)
 
-  reply_again : (m : M) (g rest : List ℕ) → length g ≡ 1 → P m g → wire_front OneByte 10000 (λ body. all_of (p body)) (g ++ rest) ≡ Ok (Some (m, rest))
+  reply_again : (m : M) (g rest : List ℕ) → length g ≡ 1 → P m g
+      → wire_front OneByte 10000 (λ body. all_of (p body)) (g ++ rest) ≡ Ok (Some (m, rest))
   reply_again m [] rest size h = absurd (omega (arith, size))
   reply_again m (b ∷ []) rest size h =
       let read : all_of (p (b ∷ [])) ≡ Ok m = all_again p P law (b ∷ []) m h in
-      front_byte (λ body. all_of (p body)) b rest ∙ ap (λ (x : Result M PgWireError). x >>= λ y. Ok (Some (y, rest))) read
+      front_byte (λ body. all_of (p body)) b rest
+      ∙ ap (λ (x : Result M PgWireError). x >>= λ y. Ok (Some (y, rest))) read
   reply_again m (b ∷ (c ∷ g)) rest size h = absurd (omega (arith, size))
 
   is_reply : IsReply (λ body. all_of (p body)) P
@@ -63,7 +71,8 @@ ssl_again ssl.Accept = refl
 ssl_again ssl.Refuse = refl
 
 ssl_reads : ReadsLast (tried_at ssl_reply (nat_at w8)) (λ m. SpellsNat w8 (ssl_byte m))
-ssl_reads = reads_last _ _ (tried_reads ssl_reply ssl_byte (nat_at w8) (SpellsNat w8) ssl_back ssl_again (nat_reads w8))
+ssl_reads =
+    reads_last _ _ (tried_reads ssl_reply ssl_byte (nat_at w8) (SpellsNat w8) ssl_back ssl_again (nat_reads w8))
 
 pub ssl_written : (m : SslResponse) → SpellsNat w8 (ssl_byte m) (ssl_byte m ∷ [])
 ssl_written ssl.Accept = (refl, refl)
@@ -71,7 +80,8 @@ ssl_written ssl.Refuse = (refl, refl)
 
 pub ssl_response : (ctx : DecodeContext) → IsReply (ssl_response_of ctx) SpellsSslResponse
 unfolding ssl_response_of
-ssl_response ctx = is_reply (tried_at ssl_reply (nat_at w8)) (λ m. SpellsNat w8 (ssl_byte m)) ssl_reads (λ m g h. h.0)
+ssl_response ctx =
+    is_reply (tried_at ssl_reply (nat_at w8)) (λ m. SpellsNat w8 (ssl_byte m)) ssl_reads (λ m g h. h.0)
 
 gss_back : (b : ℕ) (m : GssEncResponse) → gss_reply b ≡ Ok m → gss_byte m ≡ b
 unfolding gss_reply
@@ -90,7 +100,8 @@ gss_again gss.Accept = refl
 gss_again gss.Refuse = refl
 
 gss_reads : ReadsLast (tried_at gss_reply (nat_at w8)) (λ m. SpellsNat w8 (gss_byte m))
-gss_reads = reads_last _ _ (tried_reads gss_reply gss_byte (nat_at w8) (SpellsNat w8) gss_back gss_again (nat_reads w8))
+gss_reads =
+    reads_last _ _ (tried_reads gss_reply gss_byte (nat_at w8) (SpellsNat w8) gss_back gss_again (nat_reads w8))
 
 pub gss_written : (m : GssEncResponse) → SpellsNat w8 (gss_byte m) (gss_byte m ∷ [])
 gss_written gss.Accept = (refl, refl)
@@ -98,4 +109,5 @@ gss_written gss.Refuse = (refl, refl)
 
 pub gss_enc_response : (ctx : DecodeContext) → IsReply (gss_enc_response_of ctx) SpellsGssEncResponse
 unfolding gss_enc_response_of
-gss_enc_response ctx = is_reply (tried_at gss_reply (nat_at w8)) (λ m. SpellsNat w8 (gss_byte m)) gss_reads (λ m g h. h.0)
+gss_enc_response ctx =
+    is_reply (tried_at gss_reply (nat_at w8)) (λ m. SpellsNat w8 (gss_byte m)) gss_reads (λ m g h. h.0)

@@ -4,7 +4,8 @@ use Rattle.std.proofs.lemmas.Bool.{lt-ltb, le-ltb}
 use Rattle.pgw_types.specs.declared.context.ProtocolVersion.TheVariants.{PROTOCOL3_0, PROTOCOL3_2}
 use Rattle.pgw_startup.specs.Negotiate.{negotiated_version}
 
-pub alike : (minor : ℕ) → minor < 65536 → negotiated_version (pos (3 * 65536 + minor)) ≡ negotiated_version (pos minor)
+pub alike : (minor : ℕ) → minor < 65536
+    → negotiated_version (pos (3 * 65536 + minor)) ≡ negotiated_version (pos minor)
 unfolding negotiated_version
 alike minor small =
     let great : ltb 65535 (3 * 65536 + minor) ≡ true = lt-ltb _ _ (omega arith) in

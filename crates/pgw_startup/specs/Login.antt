@@ -55,7 +55,9 @@ SpellsAfter (auth.SASLContinue bytes) rest = rest ≡ bytes
 SpellsAfter (auth.SASLFinal bytes) rest = rest ≡ bytes
 
 abbrev pub SpellsAuthentication : Authentication → List ℕ → Type 0
-SpellsAuthentication m bytes = (code : List ℕ) × (rest : List ℕ) × (bytes ≡ code ++ rest) × SpellsNat w32 (authentication_code m) code × SpellsAfter m rest
+SpellsAuthentication m bytes =
+    (code : List ℕ) × (rest : List ℕ) × (bytes ≡ code ++ rest)
+    × SpellsNat w32 (authentication_code m) code × SpellsAfter m rest
 
 abbrev pub authentication : Authentication → List ℕ
 authentication auth.Ok = u32 0
@@ -82,7 +84,8 @@ authentication_fault (auth.SASLFinal bytes) = None
 -- ---- ParameterStatus
 
 unfoldable pub parameter_status_of : DecodeContext → List ℕ → Result ParameterStatus PgWireError
-parameter_status_of ctx bytes = all_of (made_at (λ p. record { name = p.0; value = p.1 }) (pair_at text_at text_at) bytes)
+parameter_status_of ctx bytes =
+    all_of (made_at (λ p. record { name = p.0; value = p.1 }) (pair_at text_at text_at) bytes)
 
 abbrev pub SpellsParameterStatus : ParameterStatus → List ℕ → Type 0
 SpellsParameterStatus m = Pair SpellsText SpellsText (m.name, m.value)
@@ -96,7 +99,9 @@ parameter_status_fault m = refused_if (has_zero m.name || has_zero m.value)
 -- ---- BackendKeyData
 
 unfoldable pub backend_key_data_of : DecodeContext → List ℕ → Result BackendKeyData PgWireError
-backend_key_data_of ctx bytes = all_of (made_at (λ p. record { pid = p.0; secret_key = p.1 }) (pair_at (int_at w32) (tried_at (key_of ctx.protocol_version) rest_at)) bytes)
+backend_key_data_of ctx bytes =
+    all_of (made_at (λ p. record { pid = p.0; secret_key = p.1 })
+    (pair_at (int_at w32) (tried_at (key_of ctx.protocol_version) rest_at)) bytes)
 
 abbrev pub SpellsBackendKeyData : ProtocolVersion → BackendKeyData → List ℕ → Type 0
 SpellsBackendKeyData version m = Pair (SpellsInt w32) (SpellsKey version) (m.pid, m.secret_key)
@@ -107,13 +112,19 @@ backend_key_data m = i32 m.pid ++ key_bytes m.secret_key
 -- ---- NegotiateProtocolVersion
 
 unfoldable pub negotiate_of : DecodeContext → List ℕ → Result NegotiateProtocolVersion PgWireError
-negotiate_of ctx bytes = all_of (made_at (λ p. record { newest_minor_protocol = p.0; unsupported_options = p.1 }) (pair_at (int_at w32) (counted_at w32 1 text_at)) bytes)
+negotiate_of ctx bytes =
+    all_of (made_at (λ p. record { newest_minor_protocol = p.0; unsupported_options = p.1 })
+    (pair_at (int_at w32) (counted_at w32 1 text_at)) bytes)
 
 abbrev pub SpellsNegotiate : NegotiateProtocolVersion → List ℕ → Type 0
-SpellsNegotiate m = Pair (SpellsInt w32) (SpellsCounted w32 SpellsText) (m.newest_minor_protocol, m.unsupported_options)
+SpellsNegotiate m =
+    Pair (SpellsInt w32) (SpellsCounted w32 SpellsText)
+    (m.newest_minor_protocol, m.unsupported_options)
 
 abbrev pub negotiate : NegotiateProtocolVersion → List ℕ
-negotiate m = i32 m.newest_minor_protocol ++ u32 (length m.unsupported_options) ++ flat_map text m.unsupported_options
+negotiate m =
+    i32 m.newest_minor_protocol ++ u32 (length m.unsupported_options) ++ flat_map text
+    m.unsupported_options
 
 abbrev pub is_options_refused : List (List ℕ) → Bool
 is_options_refused options = nat_lt 2147483647 (length options) || list_any has_zero options

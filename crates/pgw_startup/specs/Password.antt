@@ -41,7 +41,8 @@ data_at bytes = do
 -- a length and as many bytes, or the length -1 for no data
 abbrev pub SpellsData : Option (List ℕ) → List ℕ → Type 0
 SpellsData None bytes = SpellsInt w32 (negsuc 0) bytes
-SpellsData (Some payload) bytes = (len : List ℕ) × (bytes ≡ len ++ payload) × SpellsInt w32 (pos (length payload)) len
+SpellsData (Some payload) bytes =
+    (len : List ℕ) × (bytes ≡ len ++ payload) × SpellsInt w32 (pos (length payload)) len
 
 -- a length that is too great for 32 bits stands in no message
 unfoldable pub data_written : Option (List ℕ) → List ℕ
@@ -49,7 +50,9 @@ data_written None = i32 (negsuc 0)
 data_written (Some bytes) = u32 (length bytes) ++ bytes
 
 unfoldable pub initial_response_of : List ℕ → Result SASLInitialResponse PgWireError
-initial_response_of bytes = all_of (made_at (λ p. record { auth_method = p.0; payload = p.1 }) (pair_at text_at data_at) bytes)
+initial_response_of bytes =
+    all_of (made_at (λ p. record { auth_method = p.0; payload = p.1 }) (pair_at text_at data_at)
+    bytes)
 
 abbrev pub SpellsInitialResponse : SASLInitialResponse → List ℕ → Type 0
 SpellsInitialResponse m = Pair SpellsText SpellsData (m.auth_method, m.payload)

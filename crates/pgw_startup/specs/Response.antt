@@ -29,10 +29,14 @@ SpellsGssEncResponse m = SpellsNat w8 (gss_byte m)
 
 -- another byte is refused
 unfoldable pub ssl_reply : ℕ → Result SslResponse PgWireError
-ssl_reply b = if b == 83 then Ok ssl.Accept else (if b == 78 then Ok ssl.Refuse else Err (InvalidMessageType b))
+ssl_reply b =
+    if b == 83 then Ok ssl.Accept else
+    (if b == 78 then Ok ssl.Refuse else Err (InvalidMessageType b))
 
 unfoldable pub gss_reply : ℕ → Result GssEncResponse PgWireError
-gss_reply b = if b == 71 then Ok gss.Accept else (if b == 78 then Ok gss.Refuse else Err (InvalidMessageType b))
+gss_reply b =
+    if b == 71 then Ok gss.Accept else
+    (if b == 78 then Ok gss.Refuse else Err (InvalidMessageType b))
 
 unfoldable pub ssl_response_of : DecodeContext → List ℕ → Result SslResponse PgWireError
 ssl_response_of ctx bytes = all_of (tried_at ssl_reply (nat_at w8) bytes)
@@ -41,6 +45,10 @@ unfoldable pub gss_enc_response_of : DecodeContext → List ℕ → Result GssEn
 gss_enc_response_of ctx bytes = all_of (tried_at gss_reply (nat_at w8) bytes)
 
 -- what is read of one byte is spelled so, and what is spelled so is read, whatever follows it
-pub record IsReply {M : Type 0} (read : List ℕ → Result M PgWireError) (Spells : M → List ℕ → Type 0) : Type 0 where
-  pub found : (bytes : List ℕ) (m : M) (rest : List ℕ) → wire_front OneByte 10000 read bytes ≡ Ok (Some (m, rest)) → (g : List ℕ) × (bytes ≡ g ++ rest) × Spells m g
-  pub only : (m : M) (g rest : List ℕ) → Spells m g → wire_front OneByte 10000 read (g ++ rest) ≡ Ok (Some (m, rest))
+pub record IsReply {M : Type 0} (read : List ℕ → Result M PgWireError)
+    (Spells : M → List ℕ → Type 0) : Type 0 where
+  pub found : (bytes : List ℕ) (m : M) (rest : List ℕ)
+      → wire_front OneByte 10000 read bytes ≡ Ok (Some (m, rest))
+      → (g : List ℕ) × (bytes ≡ g ++ rest) × Spells m g
+  pub only : (m : M) (g rest : List ℕ) → Spells m g
+      → wire_front OneByte 10000 read (g ++ rest) ≡ Ok (Some (m, rest))

@@ -31,7 +31,9 @@ abbrev pub IsPair : List ℕ × List ℕ → Type 0
 IsPair p = IsUtf8 p.0 × IsUtf8 p.1
 
 abbrev pub IsStartup : Startup → Type 0
-IsStartup m = (m.protocol_number_major < 2 ^ 16) × (m.protocol_number_minor < 2 ^ 16) × AllByRecursion IsPair (map.entries m.parameters)
+IsStartup m =
+    (m.protocol_number_major < 2 ^ 16) × (m.protocol_number_minor < 2 ^ 16)
+    × AllByRecursion IsPair (map.entries m.parameters)
 
 abbrev pub IsNegotiate : NegotiateProtocolVersion → Type 0
 IsNegotiate m = FitsSigned w32 m.newest_minor_protocol × AreTexts m.unsupported_options

@@ -22,7 +22,8 @@ pub fn startup_is_exact()
         wire_front Untyped 10000 (startup_of ctx) bytes ≡ Ok (Some (m, rest)) → (g : List ℕ)
         × (bytes ≡ g ++ rest) × SpellsUntyped 10000 SpellsStartup m g }
     ensures only { (ctx : TheContext) (m : TheStartup) (g rest : List ℕ) →
-        SpellsUntyped 10000 SpellsStartup m g → wire_front Untyped 10000 (startup_of ctx) (g ++ rest)
+        SpellsUntyped 10000 SpellsStartup m g →
+        wire_front Untyped 10000 (startup_of ctx) (g ++ rest)
         ≡ Ok (Some (m, rest)) }
     ensures parameters { (m : Held) → from_pairs (map.entries m) ≡ m }
 {}

@@ -72,7 +72,8 @@ module _ {S : Type 0} (old : AsyncClient S) (q : Request) (h : Mover S ClientEng
       let out_is : put ++ (o.opening ++ o.out) ≡ put ++ h.out = ap (λ (l : List ℕ). put ++ l) (sym o.puts) in
       let given_is : given ≡ given ++ [] = sym (append-nil given) in
       let answers = subst (λ (g : List ℕ). AnswersDialogue all limit g (put ++ h.out) a.answer) given_is
-      (subst (λ (l : List ℕ). AnswersDialogue all limit given l a.answer) out_is (o.answers input limit given put stands))
+      (subst (λ (l : List ℕ). AnswersDialogue all limit given l a.answer) out_is
+      (o.answers input limit given put stands))
       in
       record {
         stands = subst (λ (g : List ℕ). StandsFor all limit c g (put ++ h.out)) given_is
@@ -93,7 +94,8 @@ module _ {S : Type 0} (old new : AsyncClient S) (q : Request) (was : IsUsable ol
 
   failing : (t : Tape) (c : PushClient) (fault : Option Error) (e : ClientError) → stream_tape calls ≡ t
       → push_in new ≡ c → fault_in new ≡ fault → stream_errors calls ≡ error_list fault
-      → ((input : Input) (limit : ℕ) (given put : List ℕ) → AsyncStands input limit old given put → IsUsable new → ⊥)
+      → ((input : Input) (limit : ℕ) (given put : List ℕ) → AsyncStands input limit old given put → IsUsable new →
+      ⊥)
       → ((input : Input) (limit : ℕ) (given put : List ℕ) → AsyncStands input limit old given put
       → Fails (input_with_request input q) limit given put t c fault e)
       → result ≡ Err e → Outcome old q calls new result
@@ -103,7 +105,9 @@ module _ {S : Type 0} (old new : AsyncClient S) (q : Request) (was : IsUsable ol
         spelled = spelled;
         faults = faults ∙ ap error_list (sym kept);
         broken = broken;
-        fails = λ input limit given put stands. fails_same (input_with_request input q) limit given put t (stream_tape calls)
+        fails =
+            λ input limit given put stands. fails_same (input_with_request input q) limit given put t
+            (stream_tape calls)
             c (push_in new) fault (fault_in new) e (sym tape) (sym push) (sym kept)
             (fails input limit given put stands);
       } in
@@ -125,7 +129,9 @@ module _ {S : Type 0} (old new : AsyncClient S) (q : Request) (was : IsUsable ol
             (flushed_at (Some (q ∷ [])) t h p still);
         unended = subst (λ (x : Tape). x.ended ≡ []) (sym tape) p.not_ended;
         calm = calm;
-        stands = λ input limit given put stands. subst (λ (x : Tape). AsyncStands (input_with_request input q) limit new
+        stands =
+            λ input limit given put stands. subst
+            (λ (x : Tape). AsyncStands (input_with_request input q) limit new
             (given ++ x.took) (put ++ x.wrote)) (sym tape)
             (hands.stands (input_with_request input q) limit (given ++ t.took) (put ++ t.wrote)
             (sent input limit given put stands));
@@ -165,10 +171,12 @@ module _ {S : Type 0} (old new : AsyncClient S) (q : Request) (was : IsUsable ol
         → RequestAnswers mid.engine.client mid.engine.refusal why (push_in new) result
         → Outcome old q calls new result
     outcome_at stop.Over mid last t ends stops p u tape faults kept r =
-        let sent = subst (λ (h : Mover S ClientEngine). (h.out ≡ []) × (h.unflushed ≡ false)) (sym stops.0) stops.2
+        let sent =
+        subst (λ (h : Mover S ClientEngine). (h.out ≡ []) × (h.unflushed ≡ false)) (sym stops.0) stops.2
         in
         let over = subst (λ (h : Mover S ClientEngine). h.turn ≡ turn.Over) (sym stops.0) stops.3 in
-        over_at t mid mid.engine.refusal refl over p u sent.0 sent.1 (tape ∙ ap (tape_after t) stops.1) faults kept r
+        over_at t mid mid.engine.refusal refl over p u sent.0 sent.1 (tape
+        ∙ ap (tape_after t) stops.1) faults kept r
     outcome_at stop.End mid last t ends stops p u tape faults kept r =
         let sent = ((stops.1).1).0 in
         let c = mid.engine.client in
@@ -178,7 +186,8 @@ module _ {S : Type 0} (old new : AsyncClient S) (q : Request) (was : IsUsable ol
         (λ input limit given put stands. over_ended (input_with_request input q) limit given put t mid
         w.0 (Some (q ∷ [])) p (u input limit given put stands) sent.0 sent.1 w.2) w.1
     outcome_at (stop.Fault f) mid last t ends stops p u tape faults kept r =
-        failing (with_call t stops.0) mid.engine.client (Some f) client.IoError (tape ∙ ap (tape_after t) stops.1) r.0
+        failing (with_call t stops.0) mid.engine.client (Some f) client.IoError (tape
+        ∙ ap (tape_after t) stops.1) r.0
         kept faults (λ input limit given put stands usable. let no = sym kept ∙ usable.1 in cc)
         (λ input limit given put stands. over_fault (input_with_request input q) limit given put t mid
         stops.0 f stops.2 p.not_ended (u input limit given put stands)) r.1
@@ -245,7 +254,8 @@ module _ {S : Type 0} (reader : AsyncRead.Ghosts S) (writer : AsyncWrite.Ghosts 
       ∙ end_engine reader writer client_members moved.stop ran.mid came.last ran.last ran.stops in
       let answers_mid = subst (λ (x : ClientEngine). RequestAnswers x.client x.refusal moved.stop
       (push_in answered.client) answered.answer) engine_is answers in
-      outcome_at old answered.client q was (opens.opening, opens.encoded) made answered.answer reader writer moved.stop ran.mid came.last
+      outcome_at old answered.client q was (opens.opening, opens.encoded) made answered.answer reader writer
+      moved.stop ran.mid came.last
       (stream_tape ran.calls) ran.last ran.stops
       (paced_runs (Some (q ∷ [])) reader writer new_tape h ran.mid ran.calls ran.runs
       (paced_first old q h a still left))
@@ -263,7 +273,8 @@ module _ {S : Type 0} (reader : AsyncRead.Ghosts S) (writer : AsyncWrite.Ghosts 
       → Outcome old q made answered.client answered.answer
   unasked was a (Ok p) is still not answers kept = absurd not
   unasked was a (Err e) is still not answers kept =
-      let s = staying e still (a.turned ∙ ap turn_of is) not.1 not.0 (a.refused ∙ ap refusal_of is) answers kept in
+      let s =
+      staying e still (a.turned ∙ ap turn_of is) not.1 not.0 (a.refused ∙ ap refusal_of is) answers kept in
       let u : IsUnasked old q made answered.client e = record { was = was; stays = s.0; cause = not.2 } in
       subst (Outcome old q made answered.client) (sym s.1) (inr (inl u))
 

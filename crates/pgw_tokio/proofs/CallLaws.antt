@@ -59,7 +59,8 @@ has_by c (Ok phase.Done) t refusal turned refused has over none = has
 has_by c (Err e) t refusal turned refused has over none = let no = sym none ∙ refused in cc
 
 -- no refusal is a failed call, and no end
-not_refused : (input : Input) (limit : ℕ) (given put : List ℕ) → AnswersDialogue input limit given put (Err client.IoError)
+not_refused : (input : Input) (limit : ℕ) (given put : List ℕ)
+    → AnswersDialogue input limit given put (Err client.IoError)
     → ⊥
 not_refused input limit given put answers = answers.tells
 
@@ -107,7 +108,14 @@ module _ {S : Type 0} (asked : Option (List Request)) where
         })
     paced_call t old new Flushed on step u =
         subst (Paced (with_call t Flushed)) (sym (step.1).2)
-        (record { not_ended = u.not_ended; flushing = refl; broken = u.broken; more = u.more; asked_is = u.asked_is })
+        (record {
+          not_ended = u.not_ended;
+          flushing = refl;
+          broken = u.broken;
+          more = u.more;
+          asked_is =
+              u.asked_is;
+        })
     paced_call t old new Waited on step u =
         subst (Paced t) (sym step.1)
         (record {
@@ -134,7 +142,8 @@ module _ {S : Type 0} (asked : Option (List Request)) where
 module _ {S : Type 0} where
   -- the client stands for the bytes given and put out, of which some are not written; where it was refused, that has
   -- its cause; and where it is over, it has its answer
-  pub record UnderCall (input : Input) (limit : ℕ) (given put : List ℕ) (t : Tape) (h : Mover S ClientEngine) : Type 0
+  pub record UnderCall (input : Input) (limit : ℕ) (given put : List ℕ) (t : Tape) (h : Mover S ClientEngine) :
+      Type 0
     where
       pub stands : StandsFor input limit h.engine.client (given ++ t.took) (put ++ (t.wrote ++ h.out))
       pub answers : (e : ClientError) → h.engine.refusal ≡ Some e
@@ -161,7 +170,8 @@ module _ {S : Type 0} where
           let stands = subst (λ (g : List ℕ). StandsFor input limit c g (put ++ (t.wrote ++ new.out))) given_is
           (subst (StandsFor input limit c ((given ++ t.took) ++ bytes)) all_is
           (f.takes.stands input limit (given ++ t.took) (put ++ t.wrote) before)) in
-          let answers = subst (λ (g : List ℕ). AnswersDialogue input limit g (put ++ (t.wrote ++ new.out)) f.answer)
+          let answers =
+          subst (λ (g : List ℕ). AnswersDialogue input limit g (put ++ (t.wrote ++ new.out)) f.answer)
           given_is
           (subst (λ (l : List ℕ). AnswersDialogue input limit ((given ++ t.took) ++ bytes) l f.answer) all_is
           (f.takes.answers input limit (given ++ t.took) (put ++ t.wrote) before)) in
@@ -227,7 +237,8 @@ module _ {S : Type 0} where
 
     -- it was refused
     pub over_refused : (t : Tape) (h : Mover S ClientEngine) (e : ClientError) (asked : Option (List Request))
-        → Paced asked t h → UnderCall input limit given put t h → h.out ≡ [] → h.unflushed ≡ false → h.engine.refusal ≡ Some e
+        → Paced asked t h → UnderCall input limit given put t h → h.out ≡ [] → h.unflushed ≡ false
+        → h.engine.refusal ≡ Some e
         → Fails input limit given put t h.engine.client None e
     over_refused t h e asked p u empty still is =
         let same : put ++ (t.wrote ++ h.out) ≡ put ++ t.wrote =
@@ -244,7 +255,8 @@ module _ {S : Type 0} where
 
     -- the stream's end came
     pub over_ended : (t : Tape) (h : Mover S ClientEngine) (e : ClientError) (asked : Option (List Request))
-        → Paced asked t h → UnderCall input limit given put t h → h.out ≡ [] → h.unflushed ≡ false → MeansEnd h.engine.client e
+        → Paced asked t h → UnderCall input limit given put t h → h.out ≡ [] → h.unflushed ≡ false
+        → MeansEnd h.engine.client e
         → Fails input limit given put (with_call t Ended) h.engine.client None e
     over_ended t h e asked p u empty still means =
         let flushed = flushed_at asked t h p still in

@@ -63,7 +63,8 @@ about_by input limit stream e t out (Some x) is begins =
     subst (IsAbout input limit stream) (sym is) (refl, refl, begins)
 
 pub ready_by : {S : Type 0} (stream : S) (e : SessionEngine) (t : Turn) (out : List ℕ)
-    (o : Option (Exchange S SessionEngine)) → IsSomeAnd o (λ x. held_in x ≡ fresh_mover stream e t out) → StandsAs e t
+    (o : Option (Exchange S SessionEngine)) → IsSomeAnd o (λ x. held_in x ≡ fresh_mover stream e t out)
+    → StandsAs e t
     → IsSomeAnd o (λ x. StandsAs x.engine x.turn)
 ready_by stream e t out None is stands = is
 ready_by {S} stream e t out (Some x) is stands =
@@ -101,7 +102,8 @@ module _ {S : Type 0} (reader : AsyncRead.Ghosts S) (writer : AsyncWrite.Ghosts 
   over_some : (o : Option (Exchange S SessionEngine)) (moved : Moved S SessionEngine) (ended : TheEnded S)
       → IsSomeAnd o (λ x. CameTo reader writer session_members (held_in x) moved) → ended.stream ≡ moved.stream
       → AnswersAs moved.engine moved.stop ended.answer ended.fault → (input : Input) (limit : ℕ) (first : S)
-      → IsSomeAnd o (λ x. IsAbout input limit first (held_in x)) → OverStream reader writer input limit first ended
+      → IsSomeAnd o (λ x. IsAbout input limit first (held_in x))
+      → OverStream reader writer input limit first ended
   over_some None moved ended came stream answers input limit first about = absurd came
   over_some (Some x) moved ended came stream answers input limit first about =
       over_stream reader writer session_members sessions input limit (held_in x) moved ended first about.0 about.1

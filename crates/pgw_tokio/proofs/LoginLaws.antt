@@ -62,7 +62,8 @@ ok_same : {a b : PushClient} → ◌≡◌ {A = Result PushClient ClientError} (
 ok_same is = cc
 
 -- how it is answered where the engine is over
-abbrev EndsOver : {S : Type 0} → S → PushClient → Option ClientError → Result (AsyncClient S) (NotLoggedIn S) → Type 0
+abbrev EndsOver : {S : Type 0} → S → PushClient → Option ClientError → Result (AsyncClient S) (NotLoggedIn S)
+    → Type 0
 EndsOver stream c o (Ok a) = (stream_in a ≡ stream) × (fault_in a ≡ None) × LoginOver c o (Ok (push_in a))
 EndsOver stream c o (Err n) = (n.stream ≡ stream) × (n.fault ≡ None) × LoginOver c o (Err n.error)
 
@@ -71,7 +72,8 @@ ends_over : {S : Type 0} (stream : S) (e : ClientEngine) (result : Result (Async
 ends_over stream e (Ok a) ends = ends
 ends_over stream e (Err n) ends = ends
 
-stream_is : {S : Type 0} (stream : S) (e : ClientEngine) (why : Stop) (result : Result (AsyncClient S) (NotLoggedIn S))
+stream_is : {S : Type 0} (stream : S) (e : ClientEngine) (why : Stop)
+    (result : Result (AsyncClient S) (NotLoggedIn S))
     → EndsLogin stream e why result → stream_of result ≡ stream
 stream_is stream e why (Ok a) ends = ends.0
 stream_is stream e why (Err n) ends = ends.0
@@ -116,11 +118,13 @@ module _ {S : Type 0} (input : Input) (limit : ℕ) (calls : List Call) (asked :
   module _ (reader : AsyncRead.Ghosts S) (writer : AsyncWrite.Ghosts S) where
     outcome_at : (why : Stop) (mid last : Mover S ClientEngine) (t : Tape) (ends : List Call)
         → Ends_by reader writer client_members mid why ends last → Paced asked t mid → Under t mid
-        → stream_tape calls ≡ tape_after t ends → stream_errors calls ≡ error_list (fault_after why None) → (stream : S)
+        → stream_tape calls ≡ tape_after t ends → stream_errors calls ≡ error_list (fault_after why None)
+        → (stream : S)
         (result : Result (AsyncClient S) (NotLoggedIn S)) → EndsLogin stream mid.engine why result
         → LoginOutcome input limit calls result
     outcome_at stop.Over mid last t ends stops p u tape faults stream result r =
-        let sent = subst (λ (h : Mover S ClientEngine). (h.out ≡ []) × (h.unflushed ≡ false)) (sym stops.0) stops.2 in
+        let sent =
+        subst (λ (h : Mover S ClientEngine). (h.out ≡ []) × (h.unflushed ≡ false)) (sym stops.0) stops.2 in
         over_at t mid mid.engine.refusal refl p u sent.0 sent.1 (tape ∙ ap (tape_after t) stops.1) faults stream
         result (ends_over stream mid.engine result r)
     outcome_at stop.End mid last t ends stops p u tape faults stream (Ok c) r =
@@ -132,7 +136,8 @@ module _ {S : Type 0} (input : Input) (limit : ℕ) (calls : List Call) (asked :
         (over_ended input limit [] [] t mid w.0 asked p u sent.0 sent.1 w.3) (err_same w.1)
     outcome_at (stop.Fault f) mid last t ends stops p u tape faults stream (Ok c) r = absurd (let no = r.2 in cc)
     outcome_at (stop.Fault f) mid last t ends stops p u tape faults stream (Err n) r =
-        failing n (with_call t stops.0) mid.engine.client (Some f) client.IoError (tape ∙ ap (tape_after t) stops.1) r.1
+        failing n (with_call t stops.0) mid.engine.client (Some f) client.IoError (tape
+        ∙ ap (tape_after t) stops.1) r.1
         faults (over_fault input limit [] [] t mid stops.0 f stops.2 p.not_ended u) (err_same r.2)
 
 -- ---- all of it
@@ -187,12 +192,14 @@ module _ {S : Type 0} (reader : AsyncRead.Ghosts S) (writer : AsyncWrite.Ghosts 
       (result : Result (AsyncClient S) (NotLoggedIn S))
       → IsSomeAnd o (λ x. CameTo reader writer client_members (held_in x) moved)
       → EndsLogin moved.stream moved.engine moved.stop result → (input : Input) (limit : ℕ) (first : S)
-      → IsSomeAnd o (λ x. IsAboutToLogIn input limit first (held_in x)) → LogsIn reader writer input limit first result
+      → IsSomeAnd o (λ x. IsAboutToLogIn input limit first (held_in x))
+      → LogsIn reader writer input limit first result
   logs_some None moved result came ends input limit first about = absurd came
   logs_some (Some x) moved result came ends input limit first about =
       logs_at input limit first (held_in x) moved result about came ends
 
-  pub gives_by : (f : LoggingIn S) (moved : Moved S ClientEngine) (result : Result (AsyncClient S) (NotLoggedIn S))
+  pub gives_by : (f : LoggingIn S) (moved : Moved S ClientEngine)
+      (result : Result (AsyncClient S) (NotLoggedIn S))
       → IsSomeAnd f.moving.state (λ x. CameTo reader writer client_members (held_in x) moved)
       → EndsLogin moved.stream moved.engine moved.stop result → Gives reader writer f result
   gives_by f moved result came ends = record {

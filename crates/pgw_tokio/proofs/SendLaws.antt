@@ -82,7 +82,8 @@ module _ {S : Type 0} (bytes : List ℕ) where
     fault_moves t (Unflushed x) f is = (refl, refl)
 
     over_by : (calls : List Call) (t : Tape) (h : Mover S Silent) (fault : Option Error) (o : Option ClientError)
-        (r : Result (Unit {0}) ClientError) → UnderSend t h → h.out ≡ [] → h.unflushed ≡ false → stream_tape calls ≡ t
+        (r : Result (Unit {0}) ClientError) → UnderSend t h → h.out ≡ [] → h.unflushed ≡ false
+        → stream_tape calls ≡ t
         → fault ≡ None → SentOver o r → SendingOutcome bytes o calls fault r
     over_by calls t h fault None r u empty still tape calm is =
         let wrote : (stream_tape calls).wrote ≡ bytes = ap (λ (x : Tape). x.wrote) tape ∙ sym (append-nil t.wrote)
@@ -107,7 +108,8 @@ module _ {S : Type 0} (bytes : List ℕ) where
         → ((stream_tape calls).took ≡ []) × SendingOutcome bytes refusal calls sent.fault sent.result
     outcome_at stop.Over mid last t ends calls refusal stream sent stops u tape r =
         let at : stream_tape calls ≡ t = tape ∙ ap (tape_after t) stops.1 in
-        let whole = subst (λ (h : Mover S Silent). (h.out ≡ []) × (h.unflushed ≡ false)) (sym stops.0) stops.2 in (
+        let whole =
+        subst (λ (h : Mover S Silent). (h.out ≡ []) × (h.unflushed ≡ false)) (sym stops.0) stops.2 in (
           ap (λ (x : Tape). x.took) at ∙ u.took,
           over_by calls t mid sent.fault refusal sent.result u whole.0 whole.1 at r.1 r.2,
         )
@@ -147,7 +149,9 @@ module _ {S : Type 0} (reader : AsyncRead.Ghosts S) (writer : AsyncWrite.Ghosts 
         took = refl;
         flushing = subst (λ b. Flushing b new_tape) (sym a.still) refl;
       } in
-      let o = outcome_at bytes reader writer moved.stop ran.mid came.last (stream_tape ran.calls) ran.last made refusal
+      let o =
+      outcome_at bytes reader writer moved.stop ran.mid came.last (stream_tape ran.calls) ran.last made
+      refusal
       moved.stream sent ran.stops
       (runs_on bytes reader writer new_tape h ran.mid ran.calls ran.runs first)
       (tape_append new_tape ran.calls ran.last) ends in
@@ -177,6 +181,7 @@ module _ {S : Type 0} (reader : AsyncRead.Ghosts S) (writer : AsyncWrite.Ghosts 
     moved = moved;
     came = came;
     ends = ends;
-    sends = λ stream bytes refusal is. sends_some f.moving.state moved sent f.refusal refusal came ends stream bytes
+    sends =
+        λ stream bytes refusal is. sends_some f.moving.state moved sent f.refusal refusal came ends stream bytes
         is.0 is.1;
   }

@@ -19,7 +19,8 @@ pub tape_append : (t : Tape) (first second : List Call)
 tape_append t [] second = refl
 tape_append t (call ∷ first) second = tape_append (with_call t call) first second
 
-pub faults_append : (first second : List Call) → stream_errors (first ++ second) ≡ stream_errors first ++ stream_errors
+pub faults_append : (first second : List Call)
+    → stream_errors (first ++ second) ≡ stream_errors first ++ stream_errors
     second
 faults_append [] second = refl
 faults_append (call ∷ first) second = ap (λ es. error_list (fault_of call) ++ es) (faults_append first second)
@@ -66,7 +67,8 @@ module _ {S E : Type 0} (reader : AsyncRead.Ghosts S) (writer : AsyncWrite.Ghost
         subst (λ (l : List Call). Trail reader writer mid.stream l c) (sym stops.1)
         (new.stream, (stops.3).0, sym is)
 
-    end_faults : (why : Stop) (mid new : Mover S E) (last : List Call) → Ends_by reader writer engine mid why last new
+    end_faults : (why : Stop) (mid new : Mover S E) (last : List Call)
+        → Ends_by reader writer engine mid why last new
         → stream_errors last ≡ error_list (fault_after why None)
     end_faults stop.Over mid new last stops = ap stream_errors stops.1
     end_faults stop.End mid new last stops = ap stream_errors stops.0

@@ -109,7 +109,8 @@ stops_so input limit d taken put e within stands answers starved = elim (memory_
 
 so_behind : (input : Input) (limit : ℕ) (d : Dialogue) (taken put : List ℕ)
     (r : Result DialoguePhase ClientError)
-    → length taken ≤ limit → Stands input limit d taken put → IsBehind d r → AnswersDialogue input limit taken put r
+    → length taken ≤ limit → Stands input limit d taken put → IsBehind d r
+    → AnswersDialogue input limit taken put r
     → (IsStarved d → r ≡ Err client.OutOfMemory) → StandsSo input limit (turn_of r) (refusal_of r) d taken put
 so_behind input limit d taken put (Ok phase.Waiting) within stands behind answers starved = (refl, behind.0)
 so_behind input limit d taken put (Ok phase.Ready) within stands behind answers starved = (refl, behind.0)
@@ -154,7 +155,8 @@ module _ {S : Type 0} (input : Input) (limit : ℕ) where
       (f.takes.stands input limit t.took t.wrote before) in
       let sound : IsBroken f.before → ⊥ = λ broken. elim broken
       [ inl is ↦ absurd (let no = sym is ∙ going in cc) | inr is ↦ absurd (let no = sym is ∙ going in cc) ] in
-      let answers = subst (λ (l : List ℕ). AnswersDialogue input limit (t.took ++ bytes) (t.wrote ++ l) f.answer) out
+      let answers =
+      subst (λ (l : List ℕ). AnswersDialogue input limit (t.took ++ bytes) (t.wrote ++ l) f.answer) out
       (f.takes.answers input limit t.took t.wrote before sound) in
       let size = length-append t.took bytes in
       let room : length (t.took ++ bytes) + new.engine.room ≡ limit =

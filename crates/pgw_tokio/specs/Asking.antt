@@ -29,7 +29,8 @@ use Rattle.pgw_tokio.specs.Tape.{stream_errors, error_list, stream_tape}
 
 -- ---- what is promised
 
-module _ {S : Type 0} (old : AsyncClient S) (q : Request) (calls : List Call) (new : AsyncClient S) where
+module _ {S : Type 0} (old : AsyncClient S) (q : Request) (calls : List Call)
+    (new : AsyncClient S) where
   -- no byte moved, no call failed, and the client is as it was but for its stream
   pub record Stays : Type 0 where
     pub tape : stream_tape calls ≡ new_tape
@@ -46,10 +47,12 @@ module _ {S : Type 0} (old : AsyncClient S) (q : Request) (calls : List Call) (n
     pub flushed : IsStreamFlushed (stream_tape calls)
     pub unended : (stream_tape calls).ended ≡ []
     pub calm : stream_errors calls ≡ []
-    pub stands : (input : Input) (limit : ℕ) (given put : List ℕ) → AsyncStands input limit old given put
+    pub stands : (input : Input) (limit : ℕ) (given put : List ℕ)
+        → AsyncStands input limit old given put
         → AsyncStands (input_with_request input q) limit new (given ++ (stream_tape calls).took)
         (put ++ (stream_tape calls).wrote)
-    pub last : (input : Input) (limit : ℕ) (given put : List ℕ) → AsyncStands input limit old given put
+    pub last : (input : Input) (limit : ℕ) (given put : List ℕ)
+        → AsyncStands input limit old given put
         → IsLastAnswer (input_with_request input q) (given ++ (stream_tape calls).took)
         (put ++ (stream_tape calls).wrote) answer
 
@@ -64,17 +67,21 @@ module _ {S : Type 0} (old : AsyncClient S) (q : Request) (calls : List Call) (n
     pub was : IsUsable old
     pub stays : Stays
     pub cause : (e ≡ client.OutOfMemory)
-        ⊎ ((why : PgWireError) × (encodings (sends_of q) ≡ Err why) × (e ≡ client.PgWireError why))
+        ⊎ ((why : PgWireError) × (encodings (sends_of q) ≡ Err why) ×
+        (e ≡ client.PgWireError why))
 
   -- the request has a spelling, it failed on its way, and the client can't be asked again
   pub record FailsToAnswer (e : ClientError) : Type 0 where
     pub was : IsUsable old
     pub spelled : (opening : List ℕ) × (encodings (sends_of q) ≡ Ok opening)
     pub faults : stream_errors calls ≡ error_list (fault_in new)
-    pub broken : (input : Input) (limit : ℕ) (given put : List ℕ) → AsyncStands input limit old given put
+    pub broken : (input : Input) (limit : ℕ) (given put : List ℕ)
+        → AsyncStands input limit old given put
         → IsUsable new → ⊥
-    pub fails : (input : Input) (limit : ℕ) (given put : List ℕ) → AsyncStands input limit old given put
-        → Fails (input_with_request input q) limit given put (stream_tape calls) (push_in new) (fault_in new) e
+    pub fails : (input : Input) (limit : ℕ) (given put : List ℕ)
+        → AsyncStands input limit old given put
+        → Fails (input_with_request input q) limit given put (stream_tape calls) (push_in new)
+        (fault_in new) e
 
   abbrev pub Outcome : Result Answer ClientError → Type 0
   Outcome (Ok answer) = GivesAnswer answer
@@ -97,11 +104,12 @@ IsAboutToAsk is_usable old q h =
     × BeginsRequest is_usable (push_in old) q h.engine h.turn h.out
 
 -- it is about to ask this request of this client
-pub record IsAskingOf {S : Type 0} (old : AsyncClient S) (q : Request) (f : Asking S) : Type 0 where
-  pub is_usable : Bool
-  pub decides : Decides is_usable (IsUsable old)
-  pub fault : f.fault ≡ fault_in old
-  pub about : IsSomeAnd f.moving.state (λ x. IsAboutToAsk is_usable old q (held_in x))
+pub record IsAskingOf {S : Type 0} (old : AsyncClient S) (q : Request) (f : Asking S) : Type 0
+  where
+    pub is_usable : Bool
+    pub decides : Decides is_usable (IsUsable old)
+    pub fault : f.fault ≡ fault_in old
+    pub about : IsSomeAnd f.moving.state (λ x. IsAboutToAsk is_usable old q (held_in x))
 
 -- it has not given what it gives
 abbrev pub CanAsk : {S : Type 0} → Asking S → Type 0

@@ -31,7 +31,8 @@ ClientStands e Over = e.refusal ≡ None → IsIdle e.client
 
 -- the members of the engine
 abbrev pub client_members : Engine.Ghosts ClientEngine
-client_members = record { takes = ClientFeeds; stands = ClientStands; room = λ e. push_room e.client }
+client_members =
+    record { takes = ClientFeeds; stands = ClientStands; room = λ e. push_room e.client }
 
 -- what holds of it where no more bytes are moved
 abbrev pub ClientStandsBehind : ClientEngine → Stop → Type 0
@@ -83,7 +84,8 @@ LoginAnswers c refusal (stop.Fault f) result = result ≡ Err client.IoError
 pub record HandsOut (old new : PushClient) (result : Result Answer ClientError) : Type 0 where
   pub idle : IsIdle new
   pub is : (answer : Answer) → answers_in old ≡ answer ∷ [] → result ≡ Ok answer
-  pub last : (input : Input) (limit : ℕ) (given put : List ℕ) → StandsFor input limit old given put
+  pub last : (input : Input) (limit : ℕ) (given put : List ℕ)
+      → StandsFor input limit old given put
       → IfOk result (IsLastAnswer input given put)
   pub stands : (input : Input) (limit : ℕ) (given put : List ℕ)
       → StandsFor input limit old given put → StandsFor input limit new given put

@@ -36,7 +36,8 @@ pub record IsClosingOf {S : Type 0} (old : AsyncClient S) (f : Sending S) : Type
   pub sends : IsToSend (stream_in old) bytes refusal f
 
 -- a request to cancel what is done for the client of this process number and this key
-pub record IsCancelOf {S : Type 0} (process_id : ℤ) (key : SecretKey) (stream : S) (f : Sending S) :
+pub record IsCancelOf {S : Type 0} (process_id : ℤ) (key : SecretKey) (stream : S) (f : Sending S)
+    :
     Type 0 where
   pub bytes : List ℕ
   pub refusal : Option ClientError

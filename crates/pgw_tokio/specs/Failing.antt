@@ -17,7 +17,8 @@ IsStreamFlushed t = t.flushed ≡ length t.wrote
 
 -- what came was refused, for its cause
 abbrev pub RefusesWhatCame : Input → ℕ → List ℕ → List ℕ → Tape → ClientError → Type 0
-RefusesWhatCame input limit given put t e = (t.ended ≡ []) × AnswersDialogue input limit given put (Err e)
+RefusesWhatCame input limit given put t e =
+    (t.ended ≡ []) × AnswersDialogue input limit given put (Err e)
 
 -- the stream's end came, behind the flush of all that was written
 abbrev pub IsStreamAtEnd : Input → List ℕ → List ℕ → Tape → ClientError → Type 0

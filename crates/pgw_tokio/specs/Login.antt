@@ -56,7 +56,8 @@ pub record FailsToLogIn {S : Type 0} (input : Input) (limit : ℕ) (calls : List
   pub push : PushClient
   pub fails : Fails input limit [] [] (stream_tape calls) push n.fault n.error
 
-abbrev pub LoginOutcome : {S : Type 0} → Input → ℕ → List Call → Result (AsyncClient S) (NotLoggedIn S)
+abbrev pub LoginOutcome : {S : Type 0} → Input → ℕ → List Call
+    → Result (AsyncClient S) (NotLoggedIn S)
     → Type 0
 LoginOutcome input limit calls (Ok c) = HasLoggedIn input limit calls c
 LoginOutcome input limit calls (Err n) = FailsToLogIn input limit calls n
@@ -111,9 +112,11 @@ EndsLogin stream e why (Err n) =
 module _ {S : Type 0} (reader : AsyncRead.Ghosts S) (writer : AsyncWrite.Ghosts S) where
   -- Calls were made, as `pgw_tokio_moving` tells them, and it is answered by why no more was moved; so it is what is
   -- promised of a login, where it was about to log in.
-  pub record Gives (f : LoggingIn S) (result : Result (AsyncClient S) (NotLoggedIn S)) : Type 0 where
-    pub moved : Moved S ClientEngine
-    pub came : IsSomeAnd f.moving.state (λ x. CameTo reader writer client_members (held_in x) moved)
-    pub ends : EndsLogin moved.stream moved.engine moved.stop result
-    pub logs : (input : Input) (limit : ℕ) (first : S) → IsLoginOf input limit first f
-        → LogsIn reader writer input limit first result
+  pub record Gives (f : LoggingIn S) (result : Result (AsyncClient S) (NotLoggedIn S)) : Type 0
+    where
+      pub moved : Moved S ClientEngine
+      pub came : IsSomeAnd f.moving.state
+          (λ x. CameTo reader writer client_members (held_in x) moved)
+      pub ends : EndsLogin moved.stream moved.engine moved.stop result
+      pub logs : (input : Input) (limit : ℕ) (first : S) → IsLoginOf input limit first f
+          → LogsIn reader writer input limit first result

@@ -42,8 +42,10 @@ silent_members = record { takes = SilentFeeds; stands = SilentStands; room = λ 
 abbrev pub SendingOutcome : List ℕ → Option ClientError → List Call → Option Error
     → Result (Unit {0}) ClientError → Type 0
 SendingOutcome bytes refusal calls fault (Ok done) =
-    (refusal ≡ None) × (fault ≡ None) × ((stream_tape calls).wrote ≡ bytes) × IsStreamFlushed (stream_tape calls)
-SendingOutcome bytes refusal calls None (Err e) = (refusal ≡ Some e) × ((stream_tape calls).wrote ≡ bytes)
+    (refusal ≡ None) × (fault ≡ None) × ((stream_tape calls).wrote ≡ bytes)
+    × IsStreamFlushed (stream_tape calls)
+SendingOutcome bytes refusal calls None (Err e) =
+    (refusal ≡ Some e) × ((stream_tape calls).wrote ≡ bytes)
 SendingOutcome bytes refusal calls (Some f) (Err e) =
     (e ≡ client.IoError) × ((rest : List ℕ) × (bytes ≡ (stream_tape calls).wrote ++ rest))
 
@@ -91,7 +93,8 @@ module _ {S : Type 0} (reader : AsyncRead.Ghosts S) (writer : AsyncWrite.Ghosts 
   -- Calls were made, as `pgw_tokio_moving` tells them; so it is all that is promised of bytes that it was about to write.
   pub record Gives (f : Sending S) (sent : Sent S) : Type 0 where
     pub moved : Moved S Silent
-    pub came : IsSomeAnd f.moving.state (λ x. CameTo reader writer silent_members (held_in x) moved)
+    pub came : IsSomeAnd f.moving.state
+        (λ x. CameTo reader writer silent_members (held_in x) moved)
     pub ends : EndsSending moved.stream moved.stop f.refusal sent
     pub sends : (stream : S) (bytes : List ℕ) (refusal : Option ClientError)
         → IsToSend stream bytes refusal f → Sends reader writer stream bytes refusal sent

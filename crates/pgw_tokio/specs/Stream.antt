@@ -46,7 +46,8 @@ span_of calls was is =
 
 -- the bytes to come, before some calls and behind them, are what the calls tell
 abbrev pub TellsStream : List Call → Option (List ℕ) → Option (List ℕ) → Type 0
-TellsStream calls was is = Foreseen was is new_tape (stream_tape calls) × TapeEnds is new_tape (stream_tape calls)
+TellsStream calls was is =
+    Foreseen was is new_tape (stream_tape calls) × TapeEnds is new_tape (stream_tape calls)
 
 module _ {S : Type 0} (reader : AsyncRead.Ghosts S) (writer : AsyncWrite.Ghosts S) where
   -- All that is promised of a session over a stream: calls were made, which the stream's own members tell, and over the

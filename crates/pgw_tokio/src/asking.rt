@@ -10,8 +10,8 @@ use crate::client::AsyncClient;
 use futures::Future;
 use futures::task::{Context, Poll};
 use pgw_backend::client_error::PgWireClientResult;
-use pgw_tokio_moving::{Moved, Moving};
 use pgw_session::types::Answer;
+use pgw_tokio_moving::{Moved, Moving};
 use std::io;
 use tokio::io::{AsyncRead, AsyncWrite};
 

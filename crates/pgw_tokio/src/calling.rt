@@ -8,9 +8,9 @@ ghost use Rattle.pgw_tokio.specs.Feeding.{FeedsClient};
 use crate::engine::turn_after;
 use bytes::BytesMut;
 use pgw_backend::client_error::{PgWireClientError, PgWireClientResult};
-use pgw_tokio_moving::{Engine, Stop, Turn};
 use pgw_client_push::PushClient;
 use pgw_session::types::{Answer, Request};
+use pgw_tokio_moving::{Engine, Stop, Turn};
 use std::io;
 
 /// A client, and what it was refused with.

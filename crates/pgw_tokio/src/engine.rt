@@ -9,8 +9,8 @@ use bytes::BytesMut;
 use pgw_backend::client_error::{PgWireClientError, PgWireClientResult};
 use pgw_config::config::Config;
 use pgw_dialogue::{Dialogue, DialoguePhase};
-use pgw_tokio_moving::{Engine, Turn};
 use pgw_session::types::{Request, SessionReport};
+use pgw_tokio_moving::{Engine, Turn};
 use std::alloc::Global;
 
 /// A dialogue, or what it was refused with.

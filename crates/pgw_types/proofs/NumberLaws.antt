@@ -13,7 +13,10 @@ use Rattle.pgw_types.specs.Numbers.{number_in}
 
 digits_are : (ds : List ℕ) → list_all (λ c. is_digit c 10) ds ≡ true → AllDigits 10 ds
 digits_are [] h = tt
-digits_are (d ∷ ds) h = let p = and_parts (ltb (digit_value d) 10) (list_all (λ c. is_digit c 10) ds) h in (ltb-true _ _ p.0, digits_are ds p.1)
+digits_are (d ∷ ds) h =
+    let p =
+    and_parts (ltb (digit_value d) 10) (list_all (λ c. is_digit c 10) ds) h in
+    (ltb-true _ _ p.0, digits_are ds p.1)
 
 are_digits : (ds : List ℕ) → AllDigits 10 ds → list_all (λ c. is_digit c 10) ds ≡ true
 are_digits [] h = refl
@@ -27,7 +30,8 @@ chosen true x y = inl (refl, refl)
 chosen false x y = inr (refl, refl)
 
 -- what `parse` gives is the number in the text
-pub parsed : {E : Type 0} (bits : ℕ) (text : List ℕ) (r : Result ℕ E) → ParsesUnsigned bits 10 text r → result_ok r ≡ number_in bits text
+pub parsed : {E : Type 0} (bits : ℕ) (text : List ℕ) (r : Result ℕ E) → ParsesUnsigned bits 10 text r
+    → result_ok r ≡ number_in bits text
 unfolding number_in
 parsed bits text (Ok n) h =
     let some : ltb 0 (length (without_leading_plus text)) ≡ true = lt-ltb _ _ h.0.0.0 in
@@ -39,7 +43,8 @@ parsed bits text (Err e) h =
     elim (chosen (ltb 0 (length digits) && rest) (Some (digits_value 10 digits)) None) [
       | inl k ↦
           let p = and_parts (ltb 0 (length digits)) rest k.0 in
-          let q = and_parts (list_all (λ c. is_digit c 10) digits) (ltb (digits_value 10 digits) (2 ^ bits)) p.1 in
+          let q =
+          and_parts (list_all (λ c. is_digit c 10) digits) (ltb (digits_value 10 digits) (2 ^ bits)) p.1 in
           absurd (h ((ltb-true _ _ p.0, digits_are digits q.0), ltb-true _ _ q.1))
       | inr k ↦ sym k.1
     ]

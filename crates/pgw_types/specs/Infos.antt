@@ -15,7 +15,38 @@ ERROR = codes "ERROR"
 
 -- of which nothing else is said
 abbrev pub plain_info : List ℕ → List ℕ → List ℕ → ErrorInfo
-plain_info severity code message = record { severity = severity; code = code; message = message; detail = None; hint = None; position = None; internal_position = None; internal_query = None; where_context = None; file_name = None; line = None; routine = None; severity_nonlocalized = None; schema = None; table = None; column = None; datatype = None; constraint = None }
+plain_info severity code message =
+    record {
+      severity = severity;
+      code = code;
+      message = message;
+      detail = None;
+      hint = None;
+      position =
+          None;
+      internal_position =
+          None;
+      internal_query =
+          None;
+      where_context =
+          None;
+      file_name =
+          None;
+      line =
+          None;
+      routine =
+          None;
+      severity_nonlocalized =
+          None;
+      schema =
+          None;
+      table =
+          None;
+      column =
+          None;
+      datatype = None;
+      constraint = None;
+    }
 
 -- ---- the error that a refusal is
 
@@ -71,10 +102,14 @@ info_of error message = plain_info (grade_of error).0 (grade_of error).1 message
 -- each part with its code, in the order in which they are sent
 unfoldable pub parts_of : ErrorInfo → List (ℕ × Option (List ℕ))
 parts_of e =
-    (83, Some e.severity) ∷ (86, e.severity_nonlocalized) ∷ (67, Some e.code) ∷ (77, Some e.message)
-    ∷ (68, e.detail) ∷ (72, e.hint) ∷ (80, e.position) ∷ (112, e.internal_position) ∷ (113, e.internal_query)
-    ∷ (87, e.where_context) ∷ (70, e.file_name) ∷ (76, option_map decimal e.line) ∷ (82, e.routine)
-    ∷ (115, e.schema) ∷ (116, e.table) ∷ (99, e.column) ∷ (100, e.datatype) ∷ (110, e.constraint) ∷ []
+    (83, Some e.severity) ∷ (86, e.severity_nonlocalized) ∷ (67, Some e.code) ∷
+    (77, Some e.message)
+    ∷ (68, e.detail) ∷ (72, e.hint) ∷ (80, e.position) ∷ (112, e.internal_position) ∷
+    (113, e.internal_query)
+    ∷ (87, e.where_context) ∷ (70, e.file_name) ∷ (76, option_map decimal e.line) ∷
+    (82, e.routine)
+    ∷ (115, e.schema) ∷ (116, e.table) ∷ (99, e.column) ∷ (100, e.datatype) ∷ (110, e.constraint)
+    ∷ []
 
 -- a part is a field where it is set
 abbrev pub info_field : ℕ × Option (List ℕ) → Option (ℕ × List ℕ)

@@ -32,4 +32,6 @@ pieces_at mark text = slice_split (λ b. b == mark) text
 
 -- what stands behind a word, if the text begins with it
 unfoldable pub behind_word : List ℕ → List ℕ → Option (List ℕ)
-behind_word word text = if pointwise nat_eq (take (length word) text) word then Some (drop (length word) text) else None
+behind_word word text =
+    if pointwise nat_eq (take (length word) text) word then Some (drop (length word) text) else
+    None

@@ -8,4 +8,6 @@ use Rattle.std.specs.Str.Parse.{without_leading_plus, digits_value}
 unfoldable pub number_in : ℕ → List ℕ → Option ℕ
 number_in bits text =
     let digits = without_leading_plus text in
-    if nat_lt 0 (length digits) && (list_all (λ c. is_digit c 10) digits && nat_lt (digits_value 10 digits) (2 ^ bits)) then Some (digits_value 10 digits) else None
+    if nat_lt 0 (length digits) &&
+    (list_all (λ c. is_digit c 10) digits && nat_lt (digits_value 10 digits) (2 ^ bits)) then
+    Some (digits_value 10 digits) else None

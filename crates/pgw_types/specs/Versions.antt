@@ -12,7 +12,9 @@ version_number PROTOCOL3_9999 = (3, 9999)
 
 -- the version of a major and a minor number
 abbrev pub version_from : ℕ → ℕ → Option ProtocolVersion
-version_from major minor = if major == 3 then (if minor == 0 then Some PROTOCOL3_0 else (if minor == 2 then Some PROTOCOL3_2 else None)) else None
+version_from major minor =
+    if major == 3 then (if minor == 0 then Some PROTOCOL3_0 else
+    (if minor == 2 then Some PROTOCOL3_2 else None)) else None
 
 -- both numbers in one, the major one in the upper 16 bits
 abbrev pub version_code : ProtocolVersion → ℤ
@@ -20,4 +22,12 @@ version_code v = let n = version_number v in pos (n.0 * 65536 + n.1)
 
 -- as a connection begins: the client's first message has no type byte
 abbrev pub first_context : ProtocolVersion → DecodeContext
-first_context version = record { protocol_version = version; awaiting_frontend_ssl = true; awaiting_frontend_startup = true; awaiting_backend_ssl_response = false; awaiting_backend_gss_response = false }
+first_context version =
+    record {
+      protocol_version = version;
+      awaiting_frontend_ssl = true;
+      awaiting_frontend_startup =
+          true;
+      awaiting_backend_ssl_response = false;
+      awaiting_backend_gss_response = false;
+    }

@@ -14,4 +14,5 @@ pub not_longer : (most len : ℕ) → refused_if (ltb most len) ≡ None → len
 not_longer most len is = ltb-false most len (not_refused (ltb most len) is)
 
 pub not_longer_or : (most len : ℕ) (b : Bool) → refused_if (ltb most len || b) ≡ None → len ≤ most
-not_longer_or most len b is = ltb-false most len (or_parts (ltb most len) b (not_refused (ltb most len || b) is)).0
+not_longer_or most len b is =
+    ltb-false most len (or_parts (ltb most len) b (not_refused (ltb most len || b) is)).0

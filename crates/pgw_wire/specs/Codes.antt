@@ -17,7 +17,8 @@ coded_at bytes = do
 unfoldable pub code_at : List ℕ → Result (Option (ℕ × List ℕ) × List ℕ) PgWireError
 code_at bytes = do
   code ← nat_at w8 bytes
-  if code.0 == 0 then Ok (None, code.1) else (text_at code.1 >>= λ t. Ok (Some (code.0, t.0), t.1))
+  if code.0 == 0 then Ok (None, code.1) else
+      (text_at code.1 >>= λ t. Ok (Some (code.0, t.0), t.1))
 
 -- a code that is not 0 and its text, or the mark
 abbrev pub SpellsCode : Option (ℕ × List ℕ) → List ℕ → Type 0

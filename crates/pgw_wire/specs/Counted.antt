@@ -7,13 +7,16 @@ use Rattle.pgw_wire.specs.Reading.{◌>>=◌, nat_at, list_at}
 use Rattle.pgw_wire.specs.Formats.{SpellsNat, SpellsMany}
 use Rattle.pgw_wire.specs.Writing.{u16}
 
-abbrev pub counted16_at : {A : Type 0} → ℕ → (List ℕ → Result (A × List ℕ) PgWireError) → List ℕ → Result (List A × List ℕ) PgWireError
+abbrev pub counted16_at : {A : Type 0} → ℕ → (List ℕ → Result (A × List ℕ) PgWireError) → List ℕ
+    → Result (List A × List ℕ) PgWireError
 counted16_at least kind bytes = do
   count ← nat_at w16 bytes
   list_at kind least count.0 count.1
 
 abbrev pub SpellsCounted16 : {A : Type 0} → (A → List ℕ → Type 0) → List A → List ℕ → Type 0
-SpellsCounted16 Spells xs bytes = (count : List ℕ) × (rest : List ℕ) × (bytes ≡ count ++ rest) × SpellsNat w16 (length xs) count × SpellsMany Spells xs rest
+SpellsCounted16 Spells xs bytes =
+    (count : List ℕ) × (rest : List ℕ) × (bytes ≡ count ++ rest) × SpellsNat w16 (length xs) count
+    × SpellsMany Spells xs rest
 
 abbrev pub counted16 : {A : Type 0} → (A → List ℕ) → List A → List ℕ
 counted16 spelled xs = u16 (length xs) ++ flat_map spelled xs

@@ -9,4 +9,6 @@ pub record Draft : Type 0 where
 
 -- it is stored as the pair of its fields
 abbrev pub draft_code : Coded Draft
-draft_code = code_by (List ℕ × List ℕ) (coded× (coded_list coded_ℕ) (coded_list coded_ℕ)) (λ d. (d.before, d.body)) (λ p. record { before = p.0; body = p.1 }) (λ _. refl)
+draft_code =
+    code_by (List ℕ × List ℕ) (coded× (coded_list coded_ℕ) (coded_list coded_ℕ))
+    (λ d. (d.before, d.body)) (λ p. record { before = p.0; body = p.1 }) (λ _. refl)

@@ -19,7 +19,8 @@ key_int bytes = cast_signed w32 (from_be_bytes w32 bytes)
 
 -- under version 3.0 it is a number of four bytes
 abbrev pub key_by : ProtocolVersion → List ℕ → Result SecretKey PgWireError
-key_by PROTOCOL3_0 bytes = if length bytes == 4 then Ok (I32 (key_int bytes)) else Err InvalidMessageBody
+key_by PROTOCOL3_0 bytes =
+    if length bytes == 4 then Ok (I32 (key_int bytes)) else Err InvalidMessageBody
 key_by PROTOCOL3_2 bytes = Ok (Bytes bytes)
 key_by PROTOCOL3_9999 bytes = Ok (Bytes bytes)
 

@@ -18,4 +18,5 @@ nullable_at bytes = do
 -- a length and as many bytes, or any negative length for NULL
 abbrev pub SpellsNullable : Option (List ℕ) → List ℕ → Type 0
 SpellsNullable None bytes = (n : ℕ) × SpellsInt w32 (negsuc n) bytes
-SpellsNullable (Some value) bytes = (len : List ℕ) × (bytes ≡ len ++ value) × SpellsInt w32 (pos (length value)) len
+SpellsNullable (Some value) bytes =
+    (len : List ℕ) × (bytes ≡ len ++ value) × SpellsInt w32 (pos (length value)) len

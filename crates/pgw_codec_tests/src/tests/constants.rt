@@ -1,8 +1,8 @@
 //! Numbers of the protocol. The check evaluates each constant, and so needs no test.
 
-use pgw_ext::extendedquery::{TARGET_TYPE_BYTE_PORTAL, TARGET_TYPE_BYTE_STATEMENT};
 use pgw_control::gss_enc_request::GssEncRequest;
 use pgw_control::ssl_request::SslRequest;
+use pgw_ext::extendedquery::{TARGET_TYPE_BYTE_PORTAL, TARGET_TYPE_BYTE_STATEMENT};
 use pgw_query::data::{FORMAT_CODE_BINARY, FORMAT_CODE_TEXT};
 use pgw_query::response::{
     READY_STATUS_FAILED_TRANSACTION_BLOCK, READY_STATUS_IDLE, READY_STATUS_TRANSACTION_BLOCK,

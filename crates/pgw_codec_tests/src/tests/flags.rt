@@ -3,10 +3,10 @@
 use crate::tests::shared::{buffer, same, told};
 use bytes::BytesMut;
 use pgw_codec::PgWireMessageClientCodec;
-use pgw_ext::extendedquery::Sync;
-use pgw_frontend::frontend::{PgWireFrontendMessage, SslNegotiationMetaMessage};
 use pgw_control::gss_enc_request::GssEncRequest;
 use pgw_control::ssl_request::SslRequest;
+use pgw_ext::extendedquery::Sync;
+use pgw_frontend::frontend::{PgWireFrontendMessage, SslNegotiationMetaMessage};
 use pgw_query::simplequery::Query;
 use pgw_types::context::ProtocolVersion;
 use pgw_types::memory::OutOfMemory;

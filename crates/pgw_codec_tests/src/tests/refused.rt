@@ -3,9 +3,9 @@
 use crate::tests::shared::{buffer, refusal, refused, same, same_bytes};
 use bytes::BytesMut;
 use pgw_backend::backend::PgWireBackendMessage;
+use pgw_control::cancel::CancelRequest;
 use pgw_ext::extendedquery::PortalSuspended;
 use pgw_frontend::frontend::{PgWireFrontendMessage, SslNegotiationMetaMessage};
-use pgw_control::cancel::CancelRequest;
 use pgw_query::response::CommandComplete;
 use pgw_startup::startup::Startup;
 use pgw_types::error::PgWireResult;

@@ -1,9 +1,9 @@
 //! OAUTHBEARER.
 use crate::tests::shared::{Case, Outcome, Silent, Step, TwoPasswords, compare, outcome_of, scram};
-use pgw_registry::generator::RandomPidSecretKeyGenerator;
 use pgw_login_sasl::handler::SASLAuthStartupHandler;
 use pgw_login_sasl::oauth::Oauth;
 use pgw_login_sasl::validator::{OauthValidator, ValidatorModuleResult};
+use pgw_registry::generator::RandomPidSecretKeyGenerator;
 use pgw_types::error::{PgWireError, PgWireResult};
 use pgw_types::memory::OutOfMemory;
 use pgw_types::text::Text;

@@ -2,10 +2,10 @@
 use crate::tests::shared::{
     Case, OneSecret, Outcome, Silent, Step, TwoPasswords, compare, outcome_of, scram,
 };
-use pgw_registry::generator::RandomPidSecretKeyGenerator;
 use pgw_login_sasl::handler::SASLAuthStartupHandler;
 use pgw_login_sasl::scram::{ScramAuth, ScramSource};
 use pgw_login_sasl::stored::Secrets;
+use pgw_registry::generator::RandomPidSecretKeyGenerator;
 use pgw_types::memory::OutOfMemory;
 use std::alloc::Global;
 use std::process::Abort;

@@ -6,4 +6,9 @@ pub returns-in-None : goal.returns-in-None
 returns-in-None c = adds_none c.args.runs.now c.args.run c.args.places.now.items (sym c.in-None.ensures)
 
 pub add_here-requires : goal.add_here-requires
-add_here-requires c = record { is = run_is c.args.runs.now c.args.run _ c.requires (sym c.in-Some.ensures); stands = sym c.in-Some.ensures }
+add_here-requires c =
+    record {
+      is = run_is c.args.runs.now c.args.run _ c.requires (sym c.in-Some.ensures);
+      stands = sym
+          c.in-Some.ensures;
+    }

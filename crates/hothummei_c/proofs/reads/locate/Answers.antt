@@ -11,8 +11,11 @@ pub returns-then-len-lt0 : goal.returns-then-len-lt0
 returns-then-len-lt0 c =
     let read = rw (rest_of c.args.row.now c.args.at) at c.in_ok-len.ensures in
     let fits : SFits w32 c.in_ok-len.len = search rules in
-    let long = length-drop c.args.at c.args.row.now in
-    (omega (arith, long, read.1), value_null c.args.row.now c.args.at c.in_ok-len.len fits c.if-len-lt0.true read.0)
+    let long = length-drop c.args.at c.args.row.now in (
+      omega (arith, long, read.1),
+      value_null c.args.row.now c.args.at c.in_ok-len.len fits c.if-len-lt0.true
+          read.0,
+    )
 
 pub returns-then-rest-len : goal.returns-then-rest-len
 returns-then-rest-len c =
@@ -23,7 +26,8 @@ returns-then-rest-len c =
     let read = rw whole at c.in_ok-len.ensures in
     let fits : SFits w32 c.in_ok-len.len = search rules in
     let same = is_count c.in_ok-len.len fits c.if-len-lt0.false in
-    let counted : int_at w32 bytes ≡ Ok (pos n, drop 4 bytes) = read.0 ∙ ap (λ (z : ℤ). Ok (z, drop 4 bytes)) same in
+    let counted : int_at w32 bytes ≡ Ok (pos n, drop 4 bytes) =
+    read.0 ∙ ap (λ (z : ℤ). Ok (z, drop 4 bytes)) same in
     let long = length-drop 4 bytes in
     value_short row c.args.at n counted (omega (arith, long, ap length whole))
 
@@ -36,7 +40,8 @@ returns c =
     let read = rw whole at c.in_ok-len.ensures in
     let fits : SFits w32 c.in_ok-len.len = search rules in
     let same = is_count c.in_ok-len.len fits c.if-len-lt0.false in
-    let counted : int_at w32 bytes ≡ Ok (pos n, drop 4 bytes) = read.0 ∙ ap (λ (z : ℤ). Ok (z, drop 4 bytes)) same in
+    let counted : int_at w32 bytes ≡ Ok (pos n, drop 4 bytes) =
+    read.0 ∙ ap (λ (z : ℤ). Ok (z, drop 4 bytes)) same in
     let long = length-drop 4 bytes in
     let longer = length-drop c.args.at row in
     let within : n ≤ length (drop 4 bytes) = omega (arith, long, ap length whole) in

@@ -33,7 +33,32 @@ use Rattle.pgw_backend.proofs.equality.equality_is_exact.Goals as goal
 
 -- a message as one of its kinds
 abbrev Kinds : Type 0
-Kinds = (SslResponse × Unit {0}) ⊎ ((GssEncResponse × Unit {0}) ⊎ ((Authentication × Unit {0}) ⊎ ((ParameterStatus × Unit {0}) ⊎ ((BackendKeyData × Unit {0}) ⊎ ((NegotiateProtocolVersion × Unit {0}) ⊎ ((ParseComplete × Unit {0}) ⊎ ((BindComplete × Unit {0}) ⊎ ((CloseComplete × Unit {0}) ⊎ ((PortalSuspended × Unit {0}) ⊎ ((EmptyQueryResponse × Unit {0}) ⊎ ((NoData × Unit {0}) ⊎ ((CommandComplete × Unit {0}) ⊎ ((ReadyForQuery × Unit {0}) ⊎ ((ErrorResponse × Unit {0}) ⊎ ((NoticeResponse × Unit {0}) ⊎ ((NotificationResponse × Unit {0}) ⊎ ((ParameterDescription × Unit {0}) ⊎ ((RowDescription × Unit {0}) ⊎ ((DataRow × Unit {0}) ⊎ ((CopyData × Unit {0}) ⊎ ((CopyDone × Unit {0}) ⊎ ((CopyFail × Unit {0}) ⊎ ((CopyInResponse × Unit {0}) ⊎ ((CopyOutResponse × Unit {0}) ⊎ ((CopyBothResponse × Unit {0}) ⊎ ⊥)))))))))))))))))))))))))
+Kinds =
+    (SslResponse × Unit {0})
+    ⊎ ((GssEncResponse × Unit {0}) ⊎
+    ((Authentication × Unit {0}) ⊎
+    ((ParameterStatus × Unit {0}) ⊎
+    ((BackendKeyData × Unit {0}) ⊎
+    ((NegotiateProtocolVersion × Unit {0}) ⊎
+    ((ParseComplete × Unit {0}) ⊎
+    ((BindComplete × Unit {0}) ⊎
+    ((CloseComplete × Unit {0}) ⊎
+    ((PortalSuspended × Unit {0}) ⊎
+    ((EmptyQueryResponse × Unit {0}) ⊎
+    ((NoData × Unit {0}) ⊎
+    ((CommandComplete × Unit {0}) ⊎
+    ((ReadyForQuery × Unit {0}) ⊎
+    ((ErrorResponse × Unit {0}) ⊎
+    ((NoticeResponse × Unit {0}) ⊎
+    ((NotificationResponse × Unit {0}) ⊎
+    ((ParameterDescription × Unit {0}) ⊎
+    ((RowDescription × Unit {0}) ⊎
+    ((DataRow × Unit {0}) ⊎
+    ((CopyData × Unit {0}) ⊎
+    ((CopyDone × Unit {0}) ⊎
+    ((CopyFail × Unit {0})
+    ⊎ ((CopyInResponse × Unit {0}) ⊎
+    ((CopyOutResponse × Unit {0}) ⊎ ((CopyBothResponse × Unit {0}) ⊎ ⊥)))))))))))))))))))))))))
 
 from_kind : Kinds → PgWireBackendMessage
 from_kind (inl x) = backend.SslResponse x.0
@@ -48,21 +73,47 @@ from_kind (inr (inr (inr (inr (inr (inr (inr (inr (inl x))))))))) = backend.Clos
 from_kind (inr (inr (inr (inr (inr (inr (inr (inr (inr (inl x)))))))))) = backend.PortalSuspended x.0
 from_kind (inr (inr (inr (inr (inr (inr (inr (inr (inr (inr (inl x))))))))))) = backend.EmptyQueryResponse x.0
 from_kind (inr (inr (inr (inr (inr (inr (inr (inr (inr (inr (inr (inl x)))))))))))) = backend.NoData x.0
-from_kind (inr (inr (inr (inr (inr (inr (inr (inr (inr (inr (inr (inr (inl x))))))))))))) = backend.CommandComplete x.0
-from_kind (inr (inr (inr (inr (inr (inr (inr (inr (inr (inr (inr (inr (inr (inl x)))))))))))))) = backend.ReadyForQuery x.0
-from_kind (inr (inr (inr (inr (inr (inr (inr (inr (inr (inr (inr (inr (inr (inr (inl x))))))))))))))) = backend.ErrorResponse x.0
-from_kind (inr (inr (inr (inr (inr (inr (inr (inr (inr (inr (inr (inr (inr (inr (inr (inl x)))))))))))))))) = backend.NoticeResponse x.0
-from_kind (inr (inr (inr (inr (inr (inr (inr (inr (inr (inr (inr (inr (inr (inr (inr (inr (inl x))))))))))))))))) = backend.NotificationResponse x.0
-from_kind (inr (inr (inr (inr (inr (inr (inr (inr (inr (inr (inr (inr (inr (inr (inr (inr (inr (inl x)))))))))))))))))) = backend.ParameterDescription x.0
-from_kind (inr (inr (inr (inr (inr (inr (inr (inr (inr (inr (inr (inr (inr (inr (inr (inr (inr (inr (inl x))))))))))))))))))) = backend.RowDescription x.0
-from_kind (inr (inr (inr (inr (inr (inr (inr (inr (inr (inr (inr (inr (inr (inr (inr (inr (inr (inr (inr (inl x)))))))))))))))))))) = backend.DataRow x.0
-from_kind (inr (inr (inr (inr (inr (inr (inr (inr (inr (inr (inr (inr (inr (inr (inr (inr (inr (inr (inr (inr (inl x))))))))))))))))))))) = backend.CopyData x.0
-from_kind (inr (inr (inr (inr (inr (inr (inr (inr (inr (inr (inr (inr (inr (inr (inr (inr (inr (inr (inr (inr (inr (inl x)))))))))))))))))))))) = backend.CopyDone x.0
-from_kind (inr (inr (inr (inr (inr (inr (inr (inr (inr (inr (inr (inr (inr (inr (inr (inr (inr (inr (inr (inr (inr (inr (inl x))))))))))))))))))))))) = backend.CopyFail x.0
-from_kind (inr (inr (inr (inr (inr (inr (inr (inr (inr (inr (inr (inr (inr (inr (inr (inr (inr (inr (inr (inr (inr (inr (inr (inl x)))))))))))))))))))))))) = backend.CopyInResponse x.0
-from_kind (inr (inr (inr (inr (inr (inr (inr (inr (inr (inr (inr (inr (inr (inr (inr (inr (inr (inr (inr (inr (inr (inr (inr (inr (inl x))))))))))))))))))))))))) = backend.CopyOutResponse x.0
-from_kind (inr (inr (inr (inr (inr (inr (inr (inr (inr (inr (inr (inr (inr (inr (inr (inr (inr (inr (inr (inr (inr (inr (inr (inr (inr (inl x)))))))))))))))))))))))))) = backend.CopyBothResponse x.0
-from_kind (inr (inr (inr (inr (inr (inr (inr (inr (inr (inr (inr (inr (inr (inr (inr (inr (inr (inr (inr (inr (inr (inr (inr (inr (inr (inr x)))))))))))))))))))))))))) = absurd x
+from_kind (inr (inr (inr (inr (inr (inr (inr (inr (inr (inr (inr (inr (inl x))))))))))))) =
+    backend.CommandComplete x.0
+from_kind (inr (inr (inr (inr (inr (inr (inr (inr (inr (inr (inr (inr (inr (inl x)))))))))))))) =
+    backend.ReadyForQuery x.0
+from_kind (inr (inr (inr (inr (inr (inr (inr (inr (inr (inr (inr (inr (inr (inr (inl x))))))))))))))) =
+    backend.ErrorResponse x.0
+from_kind (inr (inr (inr (inr (inr (inr (inr (inr (inr (inr (inr (inr (inr (inr (inr (inl x)))))))))))))))) =
+    backend.NoticeResponse x.0
+from_kind (inr (inr (inr (inr (inr (inr (inr (inr (inr (inr (inr (inr (inr (inr (inr (inr (inl x))))))))))))))))) =
+    backend.NotificationResponse x.0
+from_kind (inr (inr (inr (inr (inr (inr (inr (inr
+    (inr (inr (inr (inr (inr (inr (inr (inr (inr (inl x)))))))))))))))))) =
+    backend.ParameterDescription x.0
+from_kind (inr (inr (inr (inr (inr (inr (inr (inr
+    (inr (inr (inr (inr (inr (inr (inr (inr (inr (inr (inl x))))))))))))))))))) =
+    backend.RowDescription x.0
+from_kind (inr (inr (inr (inr (inr (inr (inr (inr
+    (inr (inr (inr (inr (inr (inr (inr (inr (inr (inr (inr (inl x)))))))))))))))))))) =
+    backend.DataRow x.0
+from_kind (inr (inr (inr (inr (inr (inr (inr (inr
+    (inr (inr (inr (inr (inr (inr (inr (inr (inr (inr (inr (inr (inl x))))))))))))))))))))) =
+    backend.CopyData x.0
+from_kind (inr (inr (inr (inr (inr (inr (inr (inr
+    (inr (inr (inr (inr (inr (inr (inr (inr (inr (inr (inr (inr (inr (inl x)))))))))))))))))))))) =
+    backend.CopyDone x.0
+from_kind (inr (inr (inr (inr (inr (inr (inr (inr
+    (inr (inr (inr (inr (inr (inr (inr (inr (inr (inr (inr (inr (inr (inr (inl x))))))))))))))))))))))) =
+    backend.CopyFail x.0
+from_kind (inr (inr (inr (inr (inr (inr (inr (inr
+    (inr (inr (inr (inr (inr (inr (inr (inr (inr (inr (inr (inr (inr (inr (inr (inl x)))))))))))))))))))))))) =
+    backend.CopyInResponse x.0
+from_kind (inr (inr (inr (inr (inr (inr (inr (inr
+    (inr (inr (inr (inr (inr (inr (inr (inr (inr (inr (inr (inr (inr (inr (inr (inr (inl x))))))))))))))))))))))))) =
+    backend.CopyOutResponse x.0
+from_kind (inr (inr (inr (inr (inr (inr (inr (inr
+    (inr (inr (inr (inr (inr (inr (inr (inr (inr
+    (inr (inr (inr (inr (inr (inr (inr (inr (inl x)))))))))))))))))))))))))) =
+    backend.CopyBothResponse x.0
+from_kind (inr (inr (inr (inr (inr (inr (inr (inr
+    (inr (inr (inr (inr (inr (inr (inr (inr (inr
+    (inr (inr (inr (inr (inr (inr (inr (inr (inr x)))))))))))))))))))))))))) = absurd x
 
 from_kind-as_values : (m : PgWireBackendMessage) → from_kind (as_values m) ≡ m
 unfolding from_kind
@@ -94,4 +145,36 @@ from_kind-as_values (backend.CopyOutResponse m) = refl
 from_kind-as_values (backend.CopyBothResponse m) = refl
 
 pub returns : goal.returns
-returns c = made_exact as_values from_kind from_kind-as_values _ (sum_exact _ _ (field_exact _ (c.equality_is_exact.ensures.ssl_response)) (sum_exact _ _ (field_exact _ (c.equality_is_exact.ensures.gss_enc_response)) (sum_exact _ _ (field_exact _ (c.equality_is_exact.ensures.authentication)) (sum_exact _ _ (field_exact _ (c.equality_is_exact.ensures.parameter_status)) (sum_exact _ _ (field_exact _ (c.equality_is_exact.ensures.backend_key_data)) (sum_exact _ _ (field_exact _ (c.equality_is_exact.ensures.negotiate_protocol_version)) (sum_exact _ _ (field_exact _ (c.equality_is_exact-3.ensures.parse_complete)) (sum_exact _ _ (field_exact _ (c.equality_is_exact-3.ensures.bind_complete)) (sum_exact _ _ (field_exact _ (c.equality_is_exact-3.ensures.close_complete)) (sum_exact _ _ (field_exact _ (c.equality_is_exact-3.ensures.portal_suspended)) (sum_exact _ _ (field_exact _ (c.equality_is_exact-2.ensures.empty_query_response)) (sum_exact _ _ (field_exact _ (c.equality_is_exact-2.ensures.no_data)) (sum_exact _ _ (field_exact _ (c.equality_is_exact-2.ensures.command_complete)) (sum_exact _ _ (field_exact _ (c.equality_is_exact-2.ensures.ready_for_query)) (sum_exact _ _ (field_exact _ (c.equality_is_exact-2.ensures.error_response)) (sum_exact _ _ (field_exact _ (c.equality_is_exact-2.ensures.notice_response)) (sum_exact _ _ (field_exact _ (c.equality_is_exact-2.ensures.notification_response)) (sum_exact _ _ (field_exact _ (c.equality_is_exact-2.ensures.parameter_description)) (sum_exact _ _ (field_exact _ (c.equality_is_exact-2.ensures.row_description)) (sum_exact _ _ (field_exact _ (c.equality_is_exact-2.ensures.data_row)) (sum_exact _ _ (field_exact _ (c.equality_is_exact-4.ensures.copy_data)) (sum_exact _ _ (field_exact _ (c.equality_is_exact-4.ensures.copy_done)) (sum_exact _ _ (field_exact _ (c.equality_is_exact-4.ensures.copy_fail)) (sum_exact _ _ (field_exact _ (c.equality_is_exact-4.ensures.copy_in_response)) (sum_exact _ _ (field_exact _ (c.equality_is_exact-4.ensures.copy_out_response)) (sum_exact _ _ (field_exact _ (c.equality_is_exact-4.ensures.copy_both_response)) (none_exact (λ x y. absurd x))))))))))))))))))))))))))))
+returns c =
+    made_exact as_values from_kind from_kind-as_values _
+    (sum_exact _ _ (field_exact _ (c.equality_is_exact.ensures.ssl_response))
+    (sum_exact _ _ (field_exact _ (c.equality_is_exact.ensures.gss_enc_response))
+    (sum_exact _ _ (field_exact _ (c.equality_is_exact.ensures.authentication))
+    (sum_exact _ _ (field_exact _ (c.equality_is_exact.ensures.parameter_status))
+    (sum_exact _ _ (field_exact _ (c.equality_is_exact.ensures.backend_key_data))
+    (sum_exact _ _ (field_exact _ (c.equality_is_exact.ensures.negotiate_protocol_version))
+    (sum_exact _ _ (field_exact _ (c.equality_is_exact-3.ensures.parse_complete))
+    (sum_exact _ _ (field_exact _ (c.equality_is_exact-3.ensures.bind_complete))
+    (sum_exact _ _ (field_exact _ (c.equality_is_exact-3.ensures.close_complete))
+    (sum_exact _ _ (field_exact _ (c.equality_is_exact-3.ensures.portal_suspended))
+    (sum_exact _ _ (field_exact _ (c.equality_is_exact-2.ensures.empty_query_response))
+    (sum_exact _ _ (field_exact _ (c.equality_is_exact-2.ensures.no_data))
+    (sum_exact _ _ (field_exact _ (c.equality_is_exact-2.ensures.command_complete))
+    (sum_exact _ _ (field_exact _ (c.equality_is_exact-2.ensures.ready_for_query))
+    (sum_exact _ _ (field_exact _ (c.equality_is_exact-2.ensures.error_response))
+    (sum_exact _ _ (field_exact _ (c.equality_is_exact-2.ensures.notice_response))
+    (sum_exact _ _ (field_exact _ (c.equality_is_exact-2.ensures.notification_response))
+    (sum_exact _ _ (field_exact _ (c.equality_is_exact-2.ensures.parameter_description))
+    (sum_exact _ _ (field_exact _ (c.equality_is_exact-2.ensures.row_description))
+    (sum_exact _ _ (field_exact _ (c.equality_is_exact-2.ensures.data_row))
+    (sum_exact _ _ (field_exact _ (c.equality_is_exact-4.ensures.copy_data))
+    (sum_exact _ _ (field_exact _ (c.equality_is_exact-4.ensures.copy_done))
+    (sum_exact _ _ (field_exact _ (c.equality_is_exact-4.ensures.copy_fail))
+    (sum_exact _ _ (field_exact _
+    (c.equality_is_exact-4.ensures.copy_in_response))
+    (sum_exact _ _ (field_exact _
+    (c.equality_is_exact-4.ensures.copy_out_response))
+    (sum_exact _ _ (field_exact _
+    (c.equality_is_exact-4.ensures.copy_both_response))
+    (none_exact (λ x y. absurd
+    x))))))))))))))))))))))))))))

@@ -63,6 +63,7 @@ returns g c =
         foreseen = held.foreseen;
         ends = held.ends;
         reports = λ t clear whole known segments completes no_rise.
-            reports input _ _ _ _ _ r whole segments held.session known (held.foreseen t) (held.ends t) completes (λ io. no_rise (held.cause.io io));
+            reports input _ _ _ _ _ r whole segments held.session known (held.foreseen t) (held.ends t) completes
+            (λ io. no_rise (held.cause.io io));
       };
     }

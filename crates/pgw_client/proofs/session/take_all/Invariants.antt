@@ -14,7 +14,8 @@ invariant-messages g l = record {
   left : g.L.Link.foretells → Keeps (g.L.Link.left l.fn.link) (g.L.Link.left l.link);
   quiet : ReadsNothing (g.L.Link.tape l.fn.link) (g.L.Link.tape l.link);
   going : (g.L.Link.tape l.fn.link).flushed ≡ length (g.L.Link.tape l.fn.link).wrote →
-      ClientGoesOn (input_of l.fn.input) l.fn.notes l.notes (g.L.Link.tape l.fn.link) (g.L.Link.tape l.link) l.fn.buffer l.buffer;
+      ClientGoesOn (input_of l.fn.input) l.fn.notes l.notes (g.L.Link.tape l.fn.link) (g.L.Link.tape l.link)
+      l.fn.buffer l.buffer;
 }
 
 abbrev pub decreases-messages : goal.decreases-messages

@@ -5,4 +5,5 @@ pub returns-in-Ok : goal.returns-in-Ok
 returns-in-Ok g c = left_told c.args.broken _ _ _ _ c.if-broken.false c.in-Ok.ensures.sent c.in-Ok.ensures.clean
 
 pub returns-in-Err : goal.returns-in-Err
-returns-in-Err g c = left_cut c.args.broken _ _ _ _ c.if-broken.false c.in-Err.ensures.failed c.in-Err.ensures.cause.failed
+returns-in-Err g c =
+    left_cut c.args.broken _ _ _ _ c.if-broken.false c.in-Err.ensures.failed c.in-Err.ensures.cause.failed

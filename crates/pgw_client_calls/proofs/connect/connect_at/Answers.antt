@@ -15,10 +15,16 @@ returns-in-Ok-log_in-clause-connected g c =
     record {
       first = g.D.Link.Link.tape link;
       dialled = c.in-Ok.ensures.dialled;
-      logs_in = from_new (λ before after answer. g.S.StartupHandler.means before startup after answer) (HeardAtStartup g.S.StartupHandler.exchanges g.S.StartupHandler.means) c.args.handler
-          (first_client c.args.config) (client_of first.desk) (client_of last.desk) (g.D.Link.Link.tape link) (g.D.Link.Link.tape first.link) (g.D.Link.Link.faults first.link) first.read c.args.limit first.limit first.inbox
-          (line (g.D.Link.Link.tape last.link) (g.D.Link.Link.faults last.link) last.inbox last.read last.limit) (Ok tt)
-          made.client (ap (λ l. g.D.Link.Link.tape l) made.link) (ap (λ l. g.D.Link.Link.faults l) made.link ∙ c.in-Ok.ensures.faultless) made.inbox made.read made.limit c.in-Ok-log_in.ensures.logs_in;
+      logs_in =
+          from_new (λ before after answer. g.S.StartupHandler.means before startup after answer)
+          (HeardAtStartup g.S.StartupHandler.exchanges g.S.StartupHandler.means) c.args.handler
+          (first_client c.args.config) (client_of first.desk) (client_of last.desk) (g.D.Link.Link.tape link)
+          (g.D.Link.Link.tape first.link) (g.D.Link.Link.faults first.link) first.read c.args.limit
+          first.limit first.inbox
+          (line (g.D.Link.Link.tape last.link) (g.D.Link.Link.faults last.link) last.inbox last.read last.limit)
+          (Ok tt)
+          made.client (ap (λ l. g.D.Link.Link.tape l) made.link) (ap (λ l. g.D.Link.Link.faults l) made.link
+          ∙ c.in-Ok.ensures.faultless) made.inbox made.read made.limit c.in-Ok-log_in.ensures.logs_in;
     }
 
 pub returns-in-Err-log_in-clause-failed : goal.returns-in-Err-log_in-clause-failed
@@ -39,16 +45,22 @@ returns-in-Err-log_in-clause-failed g c =
         once _ _ _ _ _ _ c.in-Ok.ensures.dialled c.hang_up.ensures.shut,
         refl,
         omega (arith, last.within, c.log_in.ensures.limit, made.limit),
-        from_new (λ before after answer. g.S.StartupHandler.means before startup after answer) (HeardAtStartup g.S.StartupHandler.exchanges g.S.StartupHandler.means) c.args.handler
-            (first_client c.args.config) (client_of first.desk) (client_of last.desk) (g.D.Link.Link.tape link) (g.D.Link.Link.tape first.link) (g.D.Link.Link.faults first.link) first.read c.args.limit first.limit first.inbox
-            (line (g.D.Link.Link.tape last.link) (g.D.Link.Link.faults last.link) last.inbox last.read last.limit) (Err c.in-Err-log_in.error)
-            made.client (ap (λ l. g.D.Link.Link.tape l) made.link) none made.inbox made.read made.limit c.in-Err-log_in.ensures.logs_in,
+        from_new (λ before after answer. g.S.StartupHandler.means before startup after answer)
+            (HeardAtStartup g.S.StartupHandler.exchanges g.S.StartupHandler.means) c.args.handler
+            (first_client c.args.config) (client_of first.desk) (client_of last.desk) (g.D.Link.Link.tape link)
+            (g.D.Link.Link.tape first.link) (g.D.Link.Link.faults first.link) first.read c.args.limit
+            first.limit first.inbox
+            (line (g.D.Link.Link.tape last.link) (g.D.Link.Link.faults last.link) last.inbox last.read last.limit)
+            (Err c.in-Err-log_in.error)
+            made.client (ap (λ l. g.D.Link.Link.tape l) made.link) none made.inbox made.read made.limit
+            c.in-Err-log_in.ensures.logs_in,
         λ t. (
           g.D.Link.Link.left link,
           _,
           made_still _ _ _ _ (c.hang_up.ensures.kept t) (c.in-Ok.ensures.offered t),
           foretold_from _ _ _ _ _ _ (ap (λ l. g.D.Link.Link.left l) made.link)
-              (ap (λ l. g.D.Link.Link.tape l) made.link) (c.log_in.ensures.foretold (g.met.D.Dialer.links_foretell t)),
+              (ap (λ l. g.D.Link.Link.tape l) made.link)
+              (c.log_in.ensures.foretold (g.met.D.Dialer.links_foretell t)),
         ),
       );
     })
@@ -59,5 +71,6 @@ returns-in-Ok-log_in-clause-foretold g c = λ t.
       g.D.Link.Link.left c.in-Ok.link,
       c.in-Ok.ensures.offered t,
       foretold_from _ _ _ _ _ _ (ap (λ l. g.D.Link.Link.left l) made.link)
-          (ap (λ l. g.D.Link.Link.tape l) made.link ∙ c.in-Ok.ensures.dialled.fresh) (c.log_in.ensures.foretold (g.met.D.Dialer.links_foretell t)),
+          (ap (λ l. g.D.Link.Link.tape l) made.link
+          ∙ c.in-Ok.ensures.dialled.fresh) (c.log_in.ensures.foretold (g.met.D.Dialer.links_foretell t)),
     )

@@ -9,7 +9,9 @@ use Rattle.pgw_client_calls.proofs.gathered.hand_all.Given as goal
 abbrev pub invariant-loop-message : goal.invariant-loop-message
 invariant-loop-message g l = record {
   opens : (after : HandlerView _) (r : Result (Unit {0}) ClientError) →
-      CallsInOrder g.H.ExtendedQueryHandler.means (calls_for l.message-iterator.rest.items) (standing l.handler (sight_of l.desk)) after r →
-      CallsInOrder g.H.ExtendedQueryHandler.means (calls_for l.fn.messages.items) (standing l.fn.handler (sight_of l.fn.desk)) after r;
+      CallsInOrder g.H.ExtendedQueryHandler.means (calls_for l.message-iterator.rest.items)
+      (standing l.handler (sight_of l.desk)) after r →
+      CallsInOrder g.H.ExtendedQueryHandler.means (calls_for l.fn.messages.items)
+      (standing l.fn.handler (sight_of l.fn.desk)) after r;
   config : l.desk.config ≡ l.fn.desk.config;
 }

@@ -6,5 +6,7 @@ use Rattle.pgw_client_laws.proofs.laws.waiting_extended_segments_are_reported.Go
 
 pub returns : goal.returns
 returns c = λ q h c old now last coming is es extended call foretold has calm.
-    gives (call_answer q) q c last.info old now coming call.taken call.sent last.rest is es last.answer last.broken
-    (extended_call q old now h c (old.buffer ++ call.taken) call.sent last extended call.requested) call.moved foretold has calm
+    gives (call_answer q) q c last.info old now coming call.taken call.sent last.rest is es last.answer
+    last.broken
+    (extended_call q old now h c (old.buffer ++ call.taken) call.sent last extended call.requested) call.moved
+    foretold has calm

@@ -6,4 +6,5 @@ use Rattle.pgw_client_laws.proofs.laws.whole_extended_segments_are_reported.Goal
 
 pub returns : goal.returns
 returns c = λ q before now h c bytes sent end es spelled more extended call segment got are.
-    reports (call_answer q) (Pause before now) q c bytes sent end.info end.rest es spelled more segment got are end.answer end.broken (extended_call q before now h c bytes sent end extended call)
+    reports (call_answer q) (Pause before now) q c bytes sent end.info end.rest es spelled more segment got are
+    end.answer end.broken (extended_call q before now h c bytes sent end extended call)

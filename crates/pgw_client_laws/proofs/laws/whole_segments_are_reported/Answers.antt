@@ -7,4 +7,5 @@ use Rattle.pgw_client_laws.proofs.laws.whole_segments_are_reported.Goals as goal
 
 pub returns : goal.returns
 returns c = λ q before now h c bytes sent end es spelled more call segment got are.
-    reports answer.Responses (Pause before now) (request.Simple q) c bytes sent end.info end.rest es spelled more segment got are end.answer end.broken (simple_call q before now h c bytes sent end call)
+    reports answer.Responses (Pause before now) (request.Simple q) c bytes sent end.info end.rest es spelled more
+    segment got are end.answer end.broken (simple_call q before now h c bytes sent end call)

@@ -7,7 +7,8 @@ use Rattle.pgw_client_places.proofs.places.try_all.Given as goal
 
 abbrev pub invariant-loop-place : goal.invariant-loop-place
 invariant-loop-place g l =
-    let t = telling g.D.Dialer.foretells g.D.Dialer.offers g.D.Dialer.tape g.D.Dialer.faults g.D.Link.Link.foretells
+    let t =
+    telling g.D.Dialer.foretells g.D.Dialer.offers g.D.Dialer.tape g.D.Dialer.faults g.D.Link.Link.foretells
     g.D.Link.Link.left g.D.Link.Link.tape g.D.Link.Link.faults in
     (new : g.row.D.Denot) (result : Result (ClientState g.row.D-Link.Denot) NoSession)
     → TriesAll t (drop l.place-index l.places) l.dialer new result → TriesAll t l.places l.fn.dialer new result

@@ -5,4 +5,6 @@ use Rattle.pgw_config.proofs.lists.read_port.Goals as goal
 
 pub returns-else-is_empty : goal.returns-else-is_empty
 unfolding port_of
-returns-else-is_empty c = c.read_u16.ensures ∙ ap (λ (b : Bool). cond b (Some 5432) (number_in 16 c.args.text.now)) c.if-is_empty.ensures
+returns-else-is_empty c =
+    c.read_u16.ensures
+    ∙ ap (λ (b : Bool). cond b (Some 5432) (number_in 16 c.args.text.now)) c.if-is_empty.ensures

@@ -9,5 +9,8 @@ use Rattle.pgw_control.proofs.laws.what_is_written_is_spelled.Goals as goal
 pub returns : goal.returns
 returns c = record {
   coded = coded_written;
-  cancel = λ v m g sound suits is. untyped_written (Opening 80877102) 10000 (SpellsCancelRequest v) m (key_fault m.secret_key) (cancel_request m) g refl (λ n. refl) (lit< tt) is (cancel_written v m sound suits);
+  cancel =
+      λ v m g sound suits is. untyped_written (Opening 80877102) 10000 (SpellsCancelRequest v) m
+      (key_fault m.secret_key) (cancel_request m) g refl (λ n. refl) (lit< tt) is
+      (cancel_written v m sound suits);
 }

@@ -7,9 +7,21 @@ use Rattle.pgw_copy.proofs.laws.what_is_written_is_spelled.Goals as goal
 
 pub returns : goal.returns
 returns c = record {
-  copy_data = λ m g is. typed_written 100 1073741822 SpellsCopyData m None m.payload g (lit< tt) is (λ fine. refl);
-  copy_fail = λ m g sound is. typed_written 102 10000 SpellsCopyFail m (refused_if (has_zero m.message)) (text m.message) g (lit< tt) is (λ fine. text_written m.message (unrefused _ fine) sound);
-  copy_in_response = λ m g sound is. typed_written 71 30000 SpellsCopyInResponse m (refused_if (is_miscounted m.columns m.column_formats)) (formats m.format m.columns m.column_formats) g (lit< tt) is (λ fine. columns_written m.format m.columns m.column_formats sound fine);
-  copy_out_response = λ m g sound is. typed_written 72 30000 SpellsCopyOutResponse m (refused_if (is_miscounted m.columns m.column_formats)) (formats m.format m.columns m.column_formats) g (lit< tt) is (λ fine. columns_written m.format m.columns m.column_formats sound fine);
-  copy_both_response = λ m g sound is. typed_written 87 30000 SpellsCopyBothResponse m (refused_if (is_miscounted m.columns m.column_formats)) (formats m.format m.columns m.column_formats) g (lit< tt) is (λ fine. columns_written m.format m.columns m.column_formats sound fine);
+  copy_data =
+      λ m g is. typed_written 100 1073741822 SpellsCopyData m None m.payload g (lit< tt) is (λ fine. refl);
+  copy_fail =
+      λ m g sound is. typed_written 102 10000 SpellsCopyFail m (refused_if (has_zero m.message)) (text m.message)
+      g (lit< tt) is (λ fine. text_written m.message (unrefused _ fine) sound);
+  copy_in_response =
+      λ m g sound is. typed_written 71 30000 SpellsCopyInResponse m
+      (refused_if (is_miscounted m.columns m.column_formats)) (formats m.format m.columns m.column_formats) g
+      (lit< tt) is (λ fine. columns_written m.format m.columns m.column_formats sound fine);
+  copy_out_response =
+      λ m g sound is. typed_written 72 30000 SpellsCopyOutResponse m
+      (refused_if (is_miscounted m.columns m.column_formats)) (formats m.format m.columns m.column_formats) g
+      (lit< tt) is (λ fine. columns_written m.format m.columns m.column_formats sound fine);
+  copy_both_response =
+      λ m g sound is. typed_written 87 30000 SpellsCopyBothResponse m
+      (refused_if (is_miscounted m.columns m.column_formats)) (formats m.format m.columns m.column_formats) g
+      (lit< tt) is (λ fine. columns_written m.format m.columns m.column_formats sound fine);
 }

@@ -9,5 +9,7 @@ use Rattle.pgw_dialogue.proofs.machine.start.Goals as goal
 pub returns-in-Err-put_all-clause-start : goal.returns-in-Err-put_all-clause-start
 returns-in-Err-put_all-clause-start c =
     let sends = c.as_slice.ensures ∙ ap (λ (m : Frontend). m ∷ []) c.in-Ok.ensures in
-    not_started (input_of c.args.input.now) c.args.out.now.items c.put_all.new.out.items c.in-Err-put_all.e c.requires
-    (subst (λ ms. PutOut (encodings ms) c.args.out.now.items c.put_all.new.out.items (Err c.in-Err-put_all.e)) sends c.in-Err-put_all.ensures.put)
+    not_started (input_of c.args.input.now) c.args.out.now.items c.put_all.new.out.items c.in-Err-put_all.e
+    c.requires
+    (subst (λ ms. PutOut (encodings ms) c.args.out.now.items c.put_all.new.out.items (Err c.in-Err-put_all.e))
+    sends c.in-Err-put_all.ensures.put)

@@ -20,7 +20,8 @@ returns-in-Err-clause-step c =
           let d = c.in-Err.ensures.decoded.1 ne in (
             record { notes = notes; outcome = Unread d.0 },
             ap Some (sym d.2),
-            λ sent. run_bad (rules_by notes_book input) (steady_by notes_book input) notes sent buffer d.0 (reads_bad notes.standing.version buffer d.0 d.1),
+            λ sent. run_bad (rules_by notes_book input) (steady_by notes_book input) notes sent buffer d.0
+                (reads_bad notes.standing.version buffer d.0 d.1),
           ),
     )
 
@@ -41,7 +42,8 @@ returns-in-Ok-true-clause-step c =
       end,
       record { outcome = refl; reported = refl },
       t.1,
-      λ sent. run_ends (rules_by notes_book input) (steady_by notes_book input) notes sent buffer m w.0 end (reads_whole notes.standing.version buffer m w.0 w.1) t.0,
+      λ sent. run_ends (rules_by notes_book input) (steady_by notes_book input) notes sent buffer m w.0 end
+          (reads_whole notes.standing.version buffer m w.0 w.1) t.0,
     )
 
 pub returns-in-Ok-true-clause-front : goal.returns-in-Ok-true-clause-front
@@ -68,7 +70,8 @@ returns-in-Ok-false-clause-step c =
       t.0,
       t.2,
       λ sent.
-          run_goes (rules_by notes_book input) (steady_by notes_book input) notes sent buffer m w.0 _ t.0 (reads_whole notes.standing.version buffer m w.0 w.1) t.1
+          run_goes (rules_by notes_book input) (steady_by notes_book input) notes sent buffer m w.0 _ t.0
+          (reads_whole notes.standing.version buffer m w.0 w.1) t.1
           ∙ ap (runs input c.take.new.notes (sent ++ t.0)) (sym w.2),
     )
 
@@ -88,8 +91,10 @@ returns-in-Ok-false-clause-front c =
       sym (take-append-drop w.0 buffer) ∙ ap (λ (l : List ℕ). taken ++ l) (sym w.2),
       t.2,
       λ sent.
-          run_goes (rules_by notes_book input) (steady_by notes_book input) notes sent taken m w.0 _ t.0 (reads_whole v taken m w.0 (front_take v buffer m w.0 w.1)) t.1
-          ∙ ap (runs input c.take.new.notes (sent ++ t.0)) (drop_all w.0 taken (omega (arith, f.1, length-take-le w.0 buffer f.1)))
+          run_goes (rules_by notes_book input) (steady_by notes_book input) notes sent taken m w.0 _ t.0
+          (reads_whole v taken m w.0 (front_take v buffer m w.0 w.1)) t.1
+          ∙ ap (runs input c.take.new.notes (sent ++ t.0))
+          (drop_all w.0 taken (omega (arith, f.1, length-take-le w.0 buffer f.1)))
           ∙ run_nothing input c.take.new.notes (sent ++ t.0),
     )
 
@@ -103,6 +108,10 @@ returns-in-Err-take-clause-step c =
     let m = c.in-Ok-Some.message in (
       t.0,
       λ ne.
-          let s = t.1 ne in
-          (s.0, s.2, λ sent. run_ends (rules_by notes_book input) (steady_by notes_book input) notes sent buffer m w.0 s.0 (reads_whole notes.standing.version buffer m w.0 w.1) s.1),
+          let s = t.1 ne in (
+            s.0,
+            s.2,
+            λ sent. run_ends (rules_by notes_book input) (steady_by notes_book input) notes sent buffer m
+                w.0 s.0 (reads_whole notes.standing.version buffer m w.0 w.1) s.1,
+          ),
     )

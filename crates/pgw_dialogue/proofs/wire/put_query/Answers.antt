@@ -12,5 +12,7 @@ pub returns-in-Err-clause-put : goal.returns-in-Err-clause-put
 unfolding encoding
 returns-in-Err-clause-put c =
     let m = frontend.Query (record { query = c.args.query.now }) in
-    subst (λ e. PutOut (encodings (m ∷ [])) c.args.out.now.items c.encode_query.new.buf.items (Err e)) (sym c.from.ensures)
-    (alone_refused m c.args.out.now.items c.encode_query.new.buf.items c.in-Err.e c.in-Err.ensures.0 c.in-Err.ensures.1)
+    subst (λ e. PutOut (encodings (m ∷ [])) c.args.out.now.items c.encode_query.new.buf.items (Err e))
+    (sym c.from.ensures)
+    (alone_refused m c.args.out.now.items c.encode_query.new.buf.items c.in-Err.e c.in-Err.ensures.0
+    c.in-Err.ensures.1)

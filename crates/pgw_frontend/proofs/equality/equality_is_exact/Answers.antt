@@ -24,14 +24,34 @@ use Rattle.pgw_wire.proofs.EqualLaws.{made_exact, none_exact, sum_exact, field_e
 use Rattle.pgw_frontend.proofs.equality.equality_is_exact.Goals as goal
 
 pub returns-clause-negotiation : goal.returns-clause-negotiation
-returns-clause-negotiation c (negotiation.PostgresSsl x) (negotiation.PostgresSsl y) = (λ e. ap (λ z. negotiation.PostgresSsl z) ((c.equality_is_exact.ensures.ssl_request x y).0 e), λ e. (c.equality_is_exact.ensures.ssl_request x y).1 cc)
-returns-clause-negotiation c (negotiation.PostgresGss x) (negotiation.PostgresGss y) = (λ e. ap (λ z. negotiation.PostgresGss z) ((c.equality_is_exact.ensures.gss_enc_request x y).0 e), λ e. (c.equality_is_exact.ensures.gss_enc_request x y).1 cc)
+returns-clause-negotiation c (negotiation.PostgresSsl x) (negotiation.PostgresSsl y) = (
+  λ e. ap (λ z. negotiation.PostgresSsl z) ((c.equality_is_exact.ensures.ssl_request x y).0 e),
+  λ e.
+      (c.equality_is_exact.ensures.ssl_request x y).1 cc,
+)
+returns-clause-negotiation c (negotiation.PostgresGss x) (negotiation.PostgresGss y) = (
+  λ e. ap (λ z. negotiation.PostgresGss z) ((c.equality_is_exact.ensures.gss_enc_request x y).0 e),
+  λ e.
+      (c.equality_is_exact.ensures.gss_enc_request x y).1 cc,
+)
 returns-clause-negotiation c negotiation.None negotiation.None = (λ e. refl, λ e. refl)
 returns-clause-negotiation c x y = (λ e. absurd cc, λ e. absurd cc)
 
 -- a message as one of its kinds
 abbrev Kinds : Type 0
-Kinds = (SslNegotiationMetaMessage × Unit {0}) ⊎ ((Startup × Unit {0}) ⊎ ((CancelRequest × Unit {0}) ⊎ ((PasswordMessageFamily × Unit {0}) ⊎ ((PortalSuspended × Unit {0}) ⊎ ((Query × Unit {0}) ⊎ ((Parse × Unit {0}) ⊎ ((Bind × Unit {0}) ⊎ ((Close × Unit {0}) ⊎ ((Describe × Unit {0}) ⊎ ((Execute × Unit {0}) ⊎ ((Flush × Unit {0}) ⊎ ((Sync × Unit {0}) ⊎ ((Terminate × Unit {0}) ⊎ ((CopyData × Unit {0}) ⊎ ((CopyDone × Unit {0}) ⊎ ((CopyFail × Unit {0}) ⊎ ⊥))))))))))))))))
+Kinds =
+    (SslNegotiationMetaMessage × Unit {0})
+    ⊎ ((Startup × Unit {0}) ⊎
+    ((CancelRequest × Unit {0}) ⊎
+    ((PasswordMessageFamily × Unit {0}) ⊎
+    ((PortalSuspended × Unit {0}) ⊎
+    ((Query × Unit {0}) ⊎
+    ((Parse × Unit {0}) ⊎
+    ((Bind × Unit {0}) ⊎ ((Close × Unit {0}) ⊎
+    ((Describe × Unit {0}) ⊎ ((Execute × Unit {0})
+    ⊎ ((Flush × Unit {0}) ⊎ ((Sync × Unit {0})
+    ⊎ ((Terminate × Unit {0}) ⊎ ((CopyData × Unit {0})
+    ⊎ ((CopyDone × Unit {0}) ⊎ ((CopyFail × Unit {0}) ⊎ ⊥))))))))))))))))
 
 from_kind : Kinds → PgWireFrontendMessage
 from_kind (inl x) = frontend.SslNegotiation x.0
@@ -47,11 +67,16 @@ from_kind (inr (inr (inr (inr (inr (inr (inr (inr (inr (inl x)))))))))) = fronte
 from_kind (inr (inr (inr (inr (inr (inr (inr (inr (inr (inr (inl x))))))))))) = frontend.Execute x.0
 from_kind (inr (inr (inr (inr (inr (inr (inr (inr (inr (inr (inr (inl x)))))))))))) = frontend.Flush x.0
 from_kind (inr (inr (inr (inr (inr (inr (inr (inr (inr (inr (inr (inr (inl x))))))))))))) = frontend.Sync x.0
-from_kind (inr (inr (inr (inr (inr (inr (inr (inr (inr (inr (inr (inr (inr (inl x)))))))))))))) = frontend.Terminate x.0
-from_kind (inr (inr (inr (inr (inr (inr (inr (inr (inr (inr (inr (inr (inr (inr (inl x))))))))))))))) = frontend.CopyData x.0
-from_kind (inr (inr (inr (inr (inr (inr (inr (inr (inr (inr (inr (inr (inr (inr (inr (inl x)))))))))))))))) = frontend.CopyDone x.0
-from_kind (inr (inr (inr (inr (inr (inr (inr (inr (inr (inr (inr (inr (inr (inr (inr (inr (inl x))))))))))))))))) = frontend.CopyFail x.0
-from_kind (inr (inr (inr (inr (inr (inr (inr (inr (inr (inr (inr (inr (inr (inr (inr (inr (inr x))))))))))))))))) = absurd x
+from_kind (inr (inr (inr (inr (inr (inr (inr (inr (inr (inr (inr (inr (inr (inl x)))))))))))))) =
+    frontend.Terminate x.0
+from_kind (inr (inr (inr (inr (inr (inr (inr (inr (inr (inr (inr (inr (inr (inr (inl x))))))))))))))) =
+    frontend.CopyData x.0
+from_kind (inr (inr (inr (inr (inr (inr (inr (inr (inr (inr (inr (inr (inr (inr (inr (inl x)))))))))))))))) =
+    frontend.CopyDone x.0
+from_kind (inr (inr (inr (inr (inr (inr (inr (inr (inr (inr (inr (inr (inr (inr (inr (inr (inl x))))))))))))))))) =
+    frontend.CopyFail x.0
+from_kind (inr (inr (inr (inr (inr (inr (inr (inr (inr (inr (inr (inr (inr (inr (inr (inr (inr x)))))))))))))))))
+    = absurd x
 
 from_kind-as_values : (m : PgWireFrontendMessage) → from_kind (as_values m) ≡ m
 unfolding from_kind
@@ -74,4 +99,23 @@ from_kind-as_values (frontend.CopyDone m) = refl
 from_kind-as_values (frontend.CopyFail m) = refl
 
 pub returns-clause-message : goal.returns-clause-message
-returns-clause-message c = made_exact as_values from_kind from_kind-as_values _ (sum_exact _ _ (field_exact _ (returns-clause-negotiation c)) (sum_exact _ _ (field_exact _ (c.equality_is_exact-2.ensures.startup)) (sum_exact _ _ (field_exact _ (c.equality_is_exact.ensures.cancel_request)) (sum_exact _ _ (field_exact _ (c.equality_is_exact-2.ensures.password_message_family)) (sum_exact _ _ (field_exact _ (c.equality_is_exact-4.ensures.portal_suspended)) (sum_exact _ _ (field_exact _ (c.equality_is_exact-3.ensures.query)) (sum_exact _ _ (field_exact _ (c.equality_is_exact-4.ensures.parse)) (sum_exact _ _ (field_exact _ (c.equality_is_exact-4.ensures.bind)) (sum_exact _ _ (field_exact _ (c.equality_is_exact-4.ensures.close)) (sum_exact _ _ (field_exact _ (c.equality_is_exact-4.ensures.describe)) (sum_exact _ _ (field_exact _ (c.equality_is_exact-4.ensures.execute)) (sum_exact _ _ (field_exact _ (c.equality_is_exact-4.ensures.flush)) (sum_exact _ _ (field_exact _ (c.equality_is_exact-4.ensures.sync)) (sum_exact _ _ (field_exact _ (c.equality_is_exact.ensures.terminate)) (sum_exact _ _ (field_exact _ (c.equality_is_exact-5.ensures.copy_data)) (sum_exact _ _ (field_exact _ (c.equality_is_exact-5.ensures.copy_done)) (sum_exact _ _ (field_exact _ (c.equality_is_exact-5.ensures.copy_fail)) (none_exact (λ x y. absurd x)))))))))))))))))))
+returns-clause-message c =
+    made_exact as_values from_kind from_kind-as_values _
+    (sum_exact _ _ (field_exact _ (returns-clause-negotiation c))
+    (sum_exact _ _ (field_exact _ (c.equality_is_exact-2.ensures.startup))
+    (sum_exact _ _ (field_exact _ (c.equality_is_exact.ensures.cancel_request))
+    (sum_exact _ _ (field_exact _ (c.equality_is_exact-2.ensures.password_message_family))
+    (sum_exact _ _ (field_exact _ (c.equality_is_exact-4.ensures.portal_suspended))
+    (sum_exact _ _ (field_exact _ (c.equality_is_exact-3.ensures.query))
+    (sum_exact _ _ (field_exact _ (c.equality_is_exact-4.ensures.parse))
+    (sum_exact _ _ (field_exact _ (c.equality_is_exact-4.ensures.bind))
+    (sum_exact _ _ (field_exact _ (c.equality_is_exact-4.ensures.close))
+    (sum_exact _ _ (field_exact _ (c.equality_is_exact-4.ensures.describe))
+    (sum_exact _ _ (field_exact _ (c.equality_is_exact-4.ensures.execute))
+    (sum_exact _ _ (field_exact _ (c.equality_is_exact-4.ensures.flush))
+    (sum_exact _ _ (field_exact _ (c.equality_is_exact-4.ensures.sync))
+    (sum_exact _ _ (field_exact _ (c.equality_is_exact.ensures.terminate))
+    (sum_exact _ _ (field_exact _ (c.equality_is_exact-5.ensures.copy_data))
+    (sum_exact _ _ (field_exact _ (c.equality_is_exact-5.ensures.copy_done))
+    (sum_exact _ _ (field_exact _ (c.equality_is_exact-5.ensures.copy_fail))
+    (none_exact (λ x y. absurd x)))))))))))))))))))

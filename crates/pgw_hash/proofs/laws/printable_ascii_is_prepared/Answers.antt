@@ -19,5 +19,6 @@ unfolding saslprep
 returns c text all =
     let low : All (λ b. b < 128) text = λ k d below. let h = all k d below in omega arith in
     let ascii : IsAscii text = IsAscii-from_all text low in
-    let clean : list_any is_ascii_control text ≡ false = list_any_none is_ascii_control text (λ k d below. printable _ (all k d below)) in
+    let clean : list_any is_ascii_control text ≡ false =
+    list_any_none is_ascii_control text (λ k d below. printable _ (all k d below)) in
     rw (chars-IsAscii text ascii, clean, normalize-ascii Nfkc text low, encodes-IsAscii text ascii) refl

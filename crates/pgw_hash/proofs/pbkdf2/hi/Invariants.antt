@@ -6,4 +6,6 @@ use Rattle.pgw_hash.specs.Pbkdf2.{hi, terms}
 use Rattle.pgw_hash.proofs.pbkdf2.hi.Given as goal
 
 abbrev pub invariant-loop : goal.invariant-loop
-invariant-loop l = fold xor l.total (terms (hmac_sha256 l.fn.password) (hmac_sha256 l.fn.password l.term) (l.count - l.counter)) ≡ hi l.fn.password l.fn.salt l.count
+invariant-loop l =
+    fold xor l.total (terms (hmac_sha256 l.fn.password) (hmac_sha256 l.fn.password l.term) (l.count - l.counter))
+    ≡ hi l.fn.password l.fn.salt l.count

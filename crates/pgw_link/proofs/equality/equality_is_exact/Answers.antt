@@ -22,7 +22,13 @@ returns-clause-dial_error c dial.OutOfMemory dial.OutOfMemory = (λ e. refl, λ 
 returns-clause-dial_error c x y = (λ e. absurd cc, λ e. absurd cc)
 
 duration_exact : IsExact {X = Duration} (λ x y. (x.secs == y.secs) && (x.nanos == y.nanos))
-duration_exact = made_exact {Y = Duration} (λ x. (x.secs, x.nanos)) (λ p. record { secs = p.0; nanos = p.1 }) (λ x. refl) _ (both_exact _ _ Decides-eqb Decides-eqb)
+duration_exact =
+    made_exact {Y = Duration} (λ x. (x.secs, x.nanos)) (λ p. record { secs = p.0; nanos = p.1 }) (λ x. refl) _
+    (both_exact _ _ Decides-eqb Decides-eqb)
 
 pub returns-clause-timeouts : goal.returns-clause-timeouts
-returns-clause-timeouts c = made_exact {Y = Timeouts} (λ x. (x.connect, (x.read, x.write))) (λ p. record { connect = p.0; read = p.1.0; write = p.1.1 }) (λ x. refl) _ (both_exact _ _ (option_exact _ duration_exact) (both_exact _ _ (option_exact _ duration_exact) (option_exact _ duration_exact)))
+returns-clause-timeouts c =
+    made_exact {Y = Timeouts} (λ x. (x.connect, (x.read, x.write)))
+    (λ p. record { connect = p.0; read = p.1.0; write = p.1.1 }) (λ x. refl) _
+    (both_exact _ _ (option_exact _ duration_exact)
+    (both_exact _ _ (option_exact _ duration_exact) (option_exact _ duration_exact)))

@@ -10,5 +10,6 @@ returns c state.AuthenticationInProgress state.AuthenticationInProgress = (λ e.
 returns c state.ReadyForQuery state.ReadyForQuery = (λ e. refl, λ e. refl)
 returns c state.QueryInProgress state.QueryInProgress = (λ e. refl, λ e. refl)
 returns c state.AwaitingSync state.AwaitingSync = (λ e. refl, λ e. refl)
-returns c (state.CopyInProgress x) (state.CopyInProgress y) = (λ e. ap (λ z. state.CopyInProgress z) ((bool_exact x y).0 e), λ e. (bool_exact x y).1 cc)
+returns c (state.CopyInProgress x) (state.CopyInProgress y) =
+    (λ e. ap (λ z. state.CopyInProgress z) ((bool_exact x y).0 e), λ e. (bool_exact x y).1 cc)
 returns c x y = (λ e. absurd cc, λ e. absurd cc)

@@ -10,4 +10,6 @@ returns-in_err-messages g c =
 
 pub returns : goal.returns
 returns g c =
-    λ login. let i = c.in_ok-messages.ensures in did_introduce _ i.0 i.1 i.2 (c.feed_all.ensures (g.C.ClientInfo.sight c.args.client.now) login)
+    λ login. let i =
+    c.in_ok-messages.ensures in did_introduce _ i.0 i.1 i.2
+    (c.feed_all.ensures (g.C.ClientInfo.sight c.args.client.now) login)

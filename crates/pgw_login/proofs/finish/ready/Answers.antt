@@ -12,4 +12,5 @@ returns-in_err-send-clause-readied g c =
 
 pub returns-clause-readied : goal.returns-clause-readied
 returns-clause-readied g c =
-    λ login. did_then (c.in_ok-send.ensures.sent (g.C.ClientInfo.sight c.args.client.now) login) (did_set (with_state ReadyForQuery) login _ c.set_state.ensures)
+    λ login. did_then (c.in_ok-send.ensures.sent (g.C.ClientInfo.sight c.args.client.now) login)
+    (did_set (with_state ReadyForQuery) login _ c.set_state.ensures)

@@ -6,4 +6,5 @@ abbrev pub invariant-loop-name : goal.invariant-loop-name
 invariant-loop-name l =
     (goal.iterator-loop-name).can_next l.name-iterator ×
     (goal.iterator-loop-name).is_finite l.name-iterator ×
-    (fold (λ m p. map.insert m p.0 p.1) l.all l.name-iterator ≡ fold (λ m p. map.insert m p.0 p.1) l.metadata (map.entries l.parameters))
+    (fold (λ m p. map.insert m p.0 p.1) l.all l.name-iterator ≡ fold (λ m p. map.insert m p.0 p.1) l.metadata
+    (map.entries l.parameters))

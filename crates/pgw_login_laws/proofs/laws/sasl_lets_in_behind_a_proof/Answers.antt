@@ -12,5 +12,6 @@ returns g c =
     sasl_lets_in (by_passwords A) (λ scram. GivesSalted (A scram.auth_db) scram.authenticator) TakesSalted waits
     salted_apart (λ scram. salted_end (A scram.auth_db) scram.authenticator) handler.scram
     (λ o. (g.dyn-1.0.entry o.validator.vtable).1.validates o.validator.value) handler.oauth
-    (offered_methods handler.scram handler.oauth) (g.P.ServerParameterProvider.provides handler.parameter_provider)
+    (offered_methods handler.scram handler.oauth)
+    (g.P.ServerParameterProvider.provides handler.parameter_provider)
     (g.M.Registers.registers handler.registry)

@@ -9,8 +9,10 @@ pub returns : goal.returns
 returns g c =
     let handler = c.args.handler.now in
     let S = g.S.SecretSource.secrets in
-    sasl_lets_in (by_secrets S) (λ scram. GivesStored (S scram.auth_db.source) scram.authenticator) TakesStored waits
+    sasl_lets_in (by_secrets S) (λ scram. GivesStored (S scram.auth_db.source) scram.authenticator) TakesStored
+    waits
     stored_apart (λ scram. stored_end (S scram.auth_db.source) scram.authenticator) handler.scram
     (λ o. (g.dyn-1.0.entry o.validator.vtable).1.validates o.validator.value) handler.oauth
-    (offered_methods handler.scram handler.oauth) (g.P.ServerParameterProvider.provides handler.parameter_provider)
+    (offered_methods handler.scram handler.oauth)
+    (g.P.ServerParameterProvider.provides handler.parameter_provider)
     (g.M.Registers.registers handler.registry)

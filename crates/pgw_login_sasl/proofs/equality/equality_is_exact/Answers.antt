@@ -10,6 +10,7 @@ returns-clause-method c x y = (λ e. absurd cc, λ e. absurd cc)
 
 pub returns-clause-stage : goal.returns-clause-stage
 returns-clause-stage c First First = (λ e. refl, λ e. refl)
-returns-clause-stage c (Further x) (Further y) = (λ e. ap (λ z. Further z) ((returns-clause-method c x y).0 e), λ e. (returns-clause-method c x y).1 cc)
+returns-clause-stage c (Further x) (Further y) =
+    (λ e. ap (λ z. Further z) ((returns-clause-method c x y).0 e), λ e. (returns-clause-method c x y).1 cc)
 returns-clause-stage c Over Over = (λ e. refl, λ e. refl)
 returns-clause-stage c x y = (λ e. absurd cc, λ e. absurd cc)

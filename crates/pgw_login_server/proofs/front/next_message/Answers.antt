@@ -13,6 +13,7 @@ returns-in-Some-SslNegotiation-None c =
     let is = arm.is ∙ ap Some (arm.field-0-is ∙ ap frontend.SslNegotiation arm.field-0-0-is) in
     let found = rw (is, c.phase-2.ensures) at c.in_ok-found.ensures.exact in
     let spelled = rw (is, c.phase-2.ensures) at c.in_ok-found.ensures.found in
-    let next = rw c.phase-in-Some-SslNegotiation-None.ensures at c.decode-in-Some-SslNegotiation-None.ensures.exact in
+    let next =
+    rw c.phase-in-Some-SslNegotiation-None.ensures at c.decode-in-Some-SslNegotiation-None.ensures.exact in
     let r = c.decode-in-Some-SslNegotiation-None.result in
     rw c.if-started.false (first_instead c.args.bound v old mid new r found spelled next)

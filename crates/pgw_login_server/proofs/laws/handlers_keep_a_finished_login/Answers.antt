@@ -4,7 +4,10 @@ use Rattle.pgw_login_server.proofs.laws.handlers_keep_a_finished_login.Goals as 
 
 pub returns : goal.returns
 returns g c = record {
-  cleartext = λ source provider registry. cleartext_keeps (g.A.AuthSource.answers source) (g.P.ServerParameterProvider.provides provider) (g.M.Registers.registers registry);
-  md5 = λ source provider registry. md5_keeps (g.A.AuthSource.answers source) (g.P.ServerParameterProvider.provides provider) (g.M.Registers.registers registry);
+  cleartext =
+      λ source provider registry. cleartext_keeps (g.A.AuthSource.answers source)
+      (g.P.ServerParameterProvider.provides provider) (g.M.Registers.registers registry);
+  md5 = λ source provider registry. md5_keeps (g.A.AuthSource.answers source)
+      (g.P.ServerParameterProvider.provides provider) (g.M.Registers.registers registry);
   noop = λ registry. noop_keeps (λ m. LoginStays) (g.M.Registers.registers registry);
 }

@@ -10,7 +10,9 @@ returns-clause-asked g c =
     record {
       broken = λ b. ((asked.broken b).0, ap V (asked.broken b).1);
       comes = λ usable. simple_came c.simple_queries_are_segments.ensures (codes "") (asked.asked usable) refl;
-      stands = λ usable config nonce ts read wrote stands. c.simple_queries_follow_one_another.ensures config nonce ts read wrote (codes "") _ _ _ _ _ stands (asked.asked usable);
+      stands =
+          λ usable config nonce ts read wrote stands. c.simple_queries_follow_one_another.ensures config nonce ts
+          read wrote (codes "") _ _ _ _ _ stands (asked.asked usable);
       well = λ usable. (asked.asked usable).well;
       halts = λ usable. (asked.asked usable).halts;
       at_end = λ usable. (asked.asked usable).at_end;

@@ -6,4 +6,7 @@ use Rattle.pgw_link.specs.MemoryLinks.{IsUnused}
 use Rattle.pgw_pool_tests.proofs.failing.links_to.Goals as goal
 
 pub loop-server-preserved : goal.loop-server-preserved
-loop-server-preserved c = subst (λ (l : List MemoryLink). All IsUnused l) (sym c.in_ok-push.ensures.ok) (All-push IsUnused c.loop-server.links c.in_ok-link_to.field-0 c.loop-server.invariant c.in_ok-link_to.ensures)
+loop-server-preserved c =
+    subst (λ (l : List MemoryLink). All IsUnused l) (sym c.in_ok-push.ensures.ok)
+    (All-push IsUnused c.loop-server.links c.in_ok-link_to.field-0 c.loop-server.invariant
+    c.in_ok-link_to.ensures)

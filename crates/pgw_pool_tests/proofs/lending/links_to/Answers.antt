@@ -6,4 +6,7 @@ use Rattle.pgw_link.specs.MemoryLinks.{IsUnused}
 use Rattle.pgw_pool_tests.proofs.lending.links_to.Goals as goal
 
 pub loop-pieces-preserved : goal.loop-pieces-preserved
-loop-pieces-preserved c = subst (λ (l : List MemoryLink). All IsUnused l) (sym c.in_ok-push.ensures.ok) (All-push IsUnused c.loop-pieces.links c.in_ok-link_to.field-0 c.loop-pieces.invariant c.in_ok-link_to.ensures)
+loop-pieces-preserved c =
+    subst (λ (l : List MemoryLink). All IsUnused l) (sym c.in_ok-push.ensures.ok)
+    (All-push IsUnused c.loop-pieces.links c.in_ok-link_to.field-0 c.loop-pieces.invariant
+    c.in_ok-link_to.ensures)

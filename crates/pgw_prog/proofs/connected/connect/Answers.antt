@@ -9,9 +9,11 @@ returns-in-Ok-clause-leaves g c =
 pub returns-in-Ok-clause-prints : goal.returns-in-Ok-clause-prints
 returns-in-Ok-clause-prints g c =
     let e = rw c.as_str.ensures.value at c.in-Ok.ensures in
-    text_printed c.args.nonce.now _ c.args.asked.now c.in-Ok.config c.connect_with-printed.result e.parsed e.only c.connect_with-printed.ensures.prints
+    text_printed c.args.nonce.now _ c.args.asked.now c.in-Ok.config c.connect_with-printed.result e.parsed e.only
+    c.connect_with-printed.ensures.prints
 
 pub returns-in-Err-clause-prints : goal.returns-in-Err-clause-prints
 returns-in-Err-clause-prints g c =
     let e = rw c.as_str.ensures.value at c.in-Err.ensures in
-    refusal_printed c.args.nonce.now _ c.args.asked.now c.in-Err.error c.from-error.result c.print_refusal.result c.from-error.ensures e.parsed e.only c.print_refusal.ensures.says c.print_refusal.ensures.memory
+    refusal_printed c.args.nonce.now _ c.args.asked.now c.in-Err.error c.from-error.result c.print_refusal.result
+    c.from-error.ensures e.parsed e.only c.print_refusal.ensures.says c.print_refusal.ensures.memory

@@ -12,7 +12,9 @@ returns-in_err-config g c =
     record {
       session = record {
         outcome = wanting;
-        session = nothing_held (gen_input c.args.nonce.now) c.args.limit g.L.Link.foretells (g.L.Link.tape link) (g.L.Link.left link) (g.L.Link.faults link) refl;
+        session =
+            nothing_held (gen_input c.args.nonce.now) c.args.limit g.L.Link.foretells (g.L.Link.tape link)
+            (g.L.Link.left link) (g.L.Link.faults link) refl;
         told = rw (p.1, p.2) refl;
       };
       kept = refl;
@@ -25,7 +27,9 @@ returns-in_err-request g c =
     record {
       session = record {
         outcome = wanting;
-        session = nothing_held (gen_input c.args.nonce.now) c.args.limit g.L.Link.foretells (g.L.Link.tape link) (g.L.Link.left link) (g.L.Link.faults link) refl;
+        session =
+            nothing_held (gen_input c.args.nonce.now) c.args.limit g.L.Link.foretells (g.L.Link.tape link)
+            (g.L.Link.left link) (g.L.Link.faults link) refl;
         told = rw (p.1, p.2) refl;
       };
       kept = refl;
@@ -43,4 +47,5 @@ pub summed-requires : goal.summed-requires
 summed-requires g c =
     let e = rw (c.in_ok-config.ensures, c.in_ok-request.ensures) at c.run_session-outcome.ensures in
     let link = e.session in
-    rows_counted (gen_input c.args.nonce.now) c.args.limit _ _ c.run_session-outcome.result (search rules) link.completed link.paced
+    rows_counted (gen_input c.args.nonce.now) c.args.limit _ _ c.run_session-outcome.result (search rules)
+    link.completed link.paced

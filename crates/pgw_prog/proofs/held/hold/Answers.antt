@@ -9,4 +9,5 @@ returns-in-Ok c =
 pub returns-in-Err : goal.returns-in-Err
 returns-in-Err c =
     let e = rw c.as_str.ensures.value at c.in-Err.ensures in
-    refused c.args.script c.in-Err.error c.from-error.result c.print_refusal.result c.from-error.ensures e.parsed e.only c.print_refusal.ensures.memory c.print_refusal.ensures.says
+    refused c.args.script c.in-Err.error c.from-error.result c.print_refusal.result c.from-error.ensures e.parsed
+    e.only c.print_refusal.ensures.memory c.print_refusal.ensures.says

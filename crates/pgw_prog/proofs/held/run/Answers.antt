@@ -18,6 +18,11 @@ returns c =
     let made = making_of link in
     let span : LinkSpan = link_span memory_tape (λ (m : MemoryLink). Some (memory_left m)) faults_of old link in
     let server = ap (λ (l : List ℕ). Some l) (c.requires.left ∙ ap (λ (m : Making). m.server) (sym e.kept)) in
-    let over = from_new input c.args.limit made span (memory_left link) c.run_session-outcome.result c.requires.new server refl c.requires.faultless e.session in
-    let told = printed input c.args.limit made (memory_tape link) (memory_left link) c.run_session-outcome.result (faults_of link) over c.print_outcome-printed.result p.text p.status p.memory p.fails p.taken p.sent in
+    let over =
+    from_new input c.args.limit made span (memory_left link) c.run_session-outcome.result c.requires.new
+    server refl c.requires.faultless e.session in
+    let told =
+    printed input c.args.limit made (memory_tape link) (memory_left link) c.run_session-outcome.result
+    (faults_of link) over c.print_outcome-printed.result p.text p.status p.memory p.fails p.taken p.sent
+    in
     subst (λ (m : Making). IfOk c.print_outcome-printed.result (PrintsSession input c.args.limit m)) e.kept told

@@ -14,8 +14,10 @@ returns-in-Ok-write_whole-clause-run g c =
     let D = g.D.Dialer in
     let source : SourceSpan = source_span I.tape I.left I.faults c.args.input.now c.answer.new.input in
     let sink : SinkSpan = sink_span O.tape O.faults c.args.output.now c.write_whole.new.output in
-    let dialer : DialSpan = dial_span D.tape D.foretells D.offers D.faults c.args.dialer.now c.answer.new.dialer in
-    ran_written _ _ _ _ _ source sink dialer c.in-Ok.printed e.answers e.no_fault e.took e.unread e.later e.leaves (rw c.deref.ensures.value at c.in-Ok-write_whole.ensures.wrote) c.in-Ok-write_whole.ensures.no_fault
+    let dialer : DialSpan =
+    dial_span D.tape D.foretells D.offers D.faults c.args.dialer.now c.answer.new.dialer in
+    ran_written _ _ _ _ _ source sink dialer c.in-Ok.printed e.answers e.no_fault e.took e.unread e.later e.leaves
+    (rw c.deref.ensures.value at c.in-Ok-write_whole.ensures.wrote) c.in-Ok-write_whole.ensures.no_fault
 
 pub returns-in-Ok-clause-run : goal.returns-in-Ok-clause-run
 returns-in-Ok-clause-run g c =
@@ -25,8 +27,10 @@ returns-in-Ok-clause-run g c =
     let D = g.D.Dialer in
     let source : SourceSpan = source_span I.tape I.left I.faults c.args.input.now c.answer.new.input in
     let sink : SinkSpan = sink_span O.tape O.faults c.args.output.now c.write_whole.new.output in
-    let dialer : DialSpan = dial_span D.tape D.foretells D.offers D.faults c.args.dialer.now c.answer.new.dialer in
-    ran_unwritten _ _ _ _ _ source sink dialer c.in-Ok.printed e.answers e.no_fault e.took e.unread e.later e.leaves (rw c.deref.ensures.value at c.in-Err.ensures.failed) c.in-Err.ensures.cause.failed
+    let dialer : DialSpan =
+    dial_span D.tape D.foretells D.offers D.faults c.args.dialer.now c.answer.new.dialer in
+    ran_unwritten _ _ _ _ _ source sink dialer c.in-Ok.printed e.answers e.no_fault e.took e.unread e.later
+    e.leaves (rw c.deref.ensures.value at c.in-Err.ensures.failed) c.in-Err.ensures.cause.failed
 
 pub returns-in-Err-Source-clause-run : goal.returns-in-Err-Source-clause-run
 returns-in-Err-Source-clause-run g c =
@@ -37,8 +41,10 @@ returns-in-Err-Source-clause-run g c =
     let D = g.D.Dialer in
     let source : SourceSpan = source_span I.tape I.left I.faults c.args.input.now c.answer.new.input in
     let sink : SinkSpan = sink_span O.tape O.faults c.args.output.now c.args.output.now in
-    let dialer : DialSpan = dial_span D.tape D.foretells D.offers D.faults c.args.dialer.now c.answer.new.dialer in
-    ran_unread _ _ _ _ _ source sink dialer (e.source is) (subst (λ (s : Stop). CountsStop s source) is e.cause) e.took e.unread e.later e.leaves refl refl refl
+    let dialer : DialSpan =
+    dial_span D.tape D.foretells D.offers D.faults c.args.dialer.now c.answer.new.dialer in
+    ran_unread _ _ _ _ _ source sink dialer (e.source is) (subst (λ (s : Stop). CountsStop s source) is e.cause)
+    e.took e.unread e.later e.leaves refl refl refl
 
 pub returns-clause-run : goal.returns-clause-run
 returns-clause-run g c =
@@ -49,5 +55,7 @@ returns-clause-run g c =
     let D = g.D.Dialer in
     let source : SourceSpan = source_span I.tape I.left I.faults c.args.input.now c.answer.new.input in
     let sink : SinkSpan = sink_span O.tape O.faults c.args.output.now c.args.output.now in
-    let dialer : DialSpan = dial_span D.tape D.foretells D.offers D.faults c.args.dialer.now c.answer.new.dialer in
-    ran_short _ _ _ _ _ source sink dialer (subst (λ (s : Stop). CountsStop s source) is e.cause) e.took e.unread e.later e.leaves refl refl refl
+    let dialer : DialSpan =
+    dial_span D.tape D.foretells D.offers D.faults c.args.dialer.now c.answer.new.dialer in
+    ran_short _ _ _ _ _ source sink dialer (subst (λ (s : Stop). CountsStop s source) is e.cause) e.took e.unread
+    e.later e.leaves refl refl refl

@@ -18,4 +18,5 @@ returns-in-Err-clause-run g c =
     let source = source_span I.tape I.left I.faults c.args.input.now c.args.input.now in
     let sink = sink_span O.tape O.faults c.args.output.now c.args.output.now in
     let dialer = dial_span D.tape D.foretells D.offers D.faults c.args.dialer.now c.args.dialer.now in
-    ran_short _ _ _ _ (command_for (map string_bytes c.args.words.now)) source sink dialer refl (untouched source refl refl) (λ unread. refl) (omega arith) (leaves_same _ _ dialer refl) refl refl refl
+    ran_short _ _ _ _ (command_for (map string_bytes c.args.words.now)) source sink dialer refl
+    (untouched source refl refl) (λ unread. refl) (omega arith) (leaves_same _ _ dialer refl) refl refl refl

@@ -9,6 +9,8 @@ loop-at-preserved g c =
     record {
       at_in = omega (arith, e.bound);
       same = e.no_fault ∙ i.same;
-      wrote = put_on (g.O.Sink.tape c.args.output.now) c.args.text.now c.loop-at.at c.in_ok-at.field-0 e.moved i.wrote;
+      wrote =
+          put_on (g.O.Sink.tape c.args.output.now) c.args.text.now c.loop-at.at c.in_ok-at.field-0 e.moved
+          i.wrote;
       writes = let p = e.moved in omega (arith, p.writes, i.writes, e.some);
     }

@@ -7,4 +7,5 @@ returns-in-Ok-clause-asked g c = asked c.answer.result (g.M.Messages.line c.ask.
     c.answer.ensures.answered
 
 pub returns-in-Err-clause-asked : goal.returns-in-Err-clause-asked
-returns-in-Err-clause-asked g c = rw (c.end_of.ensures, c.lose.ensures) (unasked c.in-Err.error _ _ _ _ _ c.in-Err.ensures)
+returns-in-Err-clause-asked g c =
+    rw (c.end_of.ensures, c.lose.ensures) (unasked c.in-Err.error _ _ _ _ _ c.in-Err.ensures)

@@ -9,6 +9,7 @@ invariant-loop-query g l = record {
   asked : (new : ServerLine) (after : List ℕ) (how : AnswerEnd)
       → AskedAll l.format (drop l.query-index l.queries) (g.M.Messages.line l.source) new (g.O.Sink.tape
       l.output).wrote after how
-      → AskedAll l.format l.queries (g.M.Messages.line l.fn.source) new (g.O.Sink.tape l.fn.output).wrote after how;
+      → AskedAll l.format l.queries (g.M.Messages.line l.fn.source) new (g.O.Sink.tape l.fn.output).wrote after
+      how;
   same : g.O.Sink.faults l.output ≡ g.O.Sink.faults l.fn.output;
 }

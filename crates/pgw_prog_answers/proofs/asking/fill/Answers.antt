@@ -2,7 +2,8 @@ use Rattle.pgw_prog_answers.proofs.HearingLaws.{waited, ran_dry, unfilled}
 use Rattle.pgw_prog_answers.proofs.asking.fill.Goals as goal
 
 pub returns-in-Ok-true-clause-hears : goal.returns-in-Ok-true-clause-hears
-returns-in-Ok-true-clause-hears g c = λ before after p awaits. waited _ _ before after p (rw c.in-Ok-true.field-0-test at
+returns-in-Ok-true-clause-hears g c =
+    λ before after p awaits. waited _ _ before after p (rw c.in-Ok-true.field-0-test at
     c.in-Ok-true.ensures)
 
 pub returns-in-Ok-false-clause-hears : goal.returns-in-Ok-false-clause-hears

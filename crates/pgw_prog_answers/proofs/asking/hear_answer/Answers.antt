@@ -21,7 +21,8 @@ returns-in-Misplaced-clause-hears g c = hearing_on _ _ _ _ _ _ halt.Misplaced c.
     c.in-Misplaced.ensures.hears
 
 pub returns-in-Lost-clause-hears : goal.returns-in-Lost-clause-hears
-returns-in-Lost-clause-hears g c = hearing_on _ _ _ _ _ _ halt.Lost c.messages.invariant.heard c.in-Lost.ensures.hears
+returns-in-Lost-clause-hears g c =
+    hearing_on _ _ _ _ _ _ halt.Lost c.messages.invariant.heard c.in-Lost.ensures.hears
 
 pub returns-in-Stopped-clause-hears : goal.returns-in-Stopped-clause-hears
 returns-in-Stopped-clause-hears g c = hearing_on _ _ _ _ _ _ (halt.Stopped c.in-Stopped.stop)

@@ -6,4 +6,6 @@ use Rattle.pgw_wire.proofs.EqualLaws.{both_exact, made_exact}
 use Rattle.pgw_prog_generate.proofs.equality.equality_is_exact.Goals as goal
 
 pub returns : goal.returns
-returns c = made_exact {Y = GenSummary} (λ x. (x.rows, x.digest)) (λ p. record { rows = p.0; digest = p.1 }) (λ x. refl) _ (both_exact _ _ Decides-eqb bytes_decides)
+returns c =
+    made_exact {Y = GenSummary} (λ x. (x.rows, x.digest)) (λ p. record { rows = p.0; digest = p.1 }) (λ x. refl) _
+    (both_exact _ _ Decides-eqb bytes_decides)

@@ -2,4 +2,9 @@ use Rattle.pgw_prog_generate.proofs.CompletionLaws.{rows_counted, stream_complet
 use Rattle.pgw_prog_generate.proofs.laws.the_stream_completes_a_session.Goals as goal
 
 pub returns : goal.returns
-returns c = record { completes = λ nonce bytes count start small is. stream_completes nonce count start bytes small is; rows = stream_reported; counted = rows_counted }
+returns c =
+    record {
+      completes = λ nonce bytes count start small is. stream_completes nonce count start bytes small is;
+      rows = stream_reported;
+      counted = rows_counted;
+    }

@@ -20,5 +20,7 @@ returns c =
     let one = c.put.new.out.items in
     let two = c.put-2.new.out.items in
     let all = c.put-3.new.out.items in
-    puts_on (backend.Authentication authentication.Ok ∷ []) (stream_ready ∷ description ∷ []) old one all c.in_ok-put.ensures
-    (puts_on (stream_ready ∷ []) (description ∷ []) one two all (rw c.ready.ensures at c.in_ok-put-2.ensures) (rw c.in_ok-description.ensures at c.in_ok-put-3.ensures))
+    puts_on (backend.Authentication authentication.Ok ∷ []) (stream_ready ∷ description ∷ []) old one all
+    c.in_ok-put.ensures
+    (puts_on (stream_ready ∷ []) (description ∷ []) one two all (rw c.ready.ensures at c.in_ok-put-2.ensures)
+    (rw c.in_ok-description.ensures at c.in_ok-put-3.ensures))

@@ -12,4 +12,6 @@ returns c =
     let e4 = c.in_ok-extend_from_slice-4.ensures.ok in
     let e5 = c.in_ok-extend_from_slice-5.ensures.ok in
     puts_row c.args.number old c.extend_from_slice-5.new.self.items (omega (arith, c.ranges.number.fits))
-    (row_parts old c.to_be_bytes.result c.to_be_bytes-2.result (decimal c.args.number) c.extend_from_slice-5.new.self.items (rw digits at (rw (e4, e3, e2, e1) at e5)) (rw digits at c.to_be_bytes.ensures) (rw digits at c.to_be_bytes-2.ensures))
+    (row_parts old c.to_be_bytes.result c.to_be_bytes-2.result (decimal c.args.number)
+    c.extend_from_slice-5.new.self.items (rw digits at (rw (e4, e3, e2, e1) at e5))
+    (rw digits at c.to_be_bytes.ensures) (rw digits at c.to_be_bytes-2.ensures))

@@ -9,4 +9,7 @@ pub returns-in_ok-run-in-Some-clause-called : goal.returns-in_ok-run-in-Some-cla
 returns-in_ok-run-in-Some-clause-called c =
     let found = rw c.as_slice.ensures.value at c.in-Some.ensures in
     let here = c.index_mut.ensures.value in
-    ran_at seat_place (lent_by c.args.pool.now) (idle_in memory_tape faults_of c.args.pool.now) (lefts_in to_come c.args.pool.now) c.args.out.now.items c.in-Some.at c.args.number c.index_mut.result.now c.run.new.seat c.args.request.now _ _ found.0 (sym here) (ap (λ s. (seat_place s).number) here ∙ found.1 c.index_mut.result.now) c.in_ok-run-in-Some.ensures
+    ran_at seat_place (lent_by c.args.pool.now) (idle_in memory_tape faults_of c.args.pool.now)
+    (lefts_in to_come c.args.pool.now) c.args.out.now.items c.in-Some.at c.args.number c.index_mut.result.now
+    c.run.new.seat c.args.request.now _ _ found.0 (sym here) (ap (λ s. (seat_place s).number) here
+    ∙ found.1 c.index_mut.result.now) c.in_ok-run-in-Some.ensures

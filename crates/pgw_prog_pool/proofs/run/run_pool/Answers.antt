@@ -9,4 +9,5 @@ returns-in-Ok c =
 pub returns-in-Err : goal.returns-in-Err
 returns-in-Err c =
     let e = rw c.as_str.ensures.value at c.in-Err.ensures in
-    refused c.args.script.now c.in-Err.error c.from-error.result c.refused.result c.from-error.ensures e.parsed e.only c.refused.ensures.memory c.refused.ensures.value
+    refused c.args.script.now c.in-Err.error c.from-error.result c.refused.result c.from-error.ensures e.parsed
+    e.only c.refused.ensures.memory c.refused.ensures.value

@@ -8,4 +8,5 @@ abbrev pub invariant-loop-name : goal.invariant-loop-name
 invariant-loop-name l =
     (goal.iterator-loop-name).can_next l.name-iterator ×
     (goal.iterator-loop-name).is_finite l.name-iterator ×
-    (l.out.items ++ flat_map parameter_line l.name-iterator ≡ l.fn.out.items ++ flat_map parameter_line (map.entries l.parameters))
+    (l.out.items ++ flat_map parameter_line l.name-iterator ≡ l.fn.out.items ++ flat_map parameter_line
+    (map.entries l.parameters))

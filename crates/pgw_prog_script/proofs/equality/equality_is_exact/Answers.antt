@@ -9,7 +9,8 @@ use Rattle.pgw_prog_script.proofs.equality.equality_is_exact.Goals as goal
 
 pub returns-clause-script_fault : goal.returns-clause-script_fault
 returns-clause-script_fault c fault.OutOfMemory fault.OutOfMemory = (λ e. refl, λ e. refl)
-returns-clause-script_fault c (fault.Line x) (fault.Line y) = (λ e. ap (λ z. fault.Line z) ((Decides-eqb x y).0 e), λ e. (Decides-eqb x y).1 cc)
+returns-clause-script_fault c (fault.Line x) (fault.Line y) =
+    (λ e. ap (λ z. fault.Line z) ((Decides-eqb x y).0 e), λ e. (Decides-eqb x y).1 cc)
 returns-clause-script_fault c x y = (λ e. absurd cc, λ e. absurd cc)
 
 pub returns-clause-place : goal.returns-clause-place

@@ -13,10 +13,16 @@ pub returns-then-may_end-clause-exact : goal.returns-then-may_end-clause-exact
 returns-then-may_end-clause-exact g c =
     let D = g.D.Draft in
     let draft = c.loop-rest.draft in
-    rw c.finish.ensures (sym c.loop-rest.invariant.same ∙ rw c.if-may_end.true at (at_end D.form (D.place draft) (D.script draft) c.loop-rest.number c.loop-rest.rest.now c.may_end.result (omega (arith, c.loop-rest-test.false)) c.may_end.ensures))
+    rw c.finish.ensures (sym c.loop-rest.invariant.same
+    ∙ rw c.if-may_end.true at
+    (at_end D.form (D.place draft) (D.script draft) c.loop-rest.number c.loop-rest.rest.now
+    c.may_end.result (omega (arith, c.loop-rest-test.false)) c.may_end.ensures))
 
 pub returns-else-may_end-clause-exact : goal.returns-else-may_end-clause-exact
 returns-else-may_end-clause-exact g c =
     let D = g.D.Draft in
     let draft = c.loop-rest.draft in
-    sym c.loop-rest.invariant.same ∙ rw c.if-may_end.false at (at_end D.form (D.place draft) (D.script draft) c.loop-rest.number c.loop-rest.rest.now c.may_end.result (omega (arith, c.loop-rest-test.false)) c.may_end.ensures)
+    sym c.loop-rest.invariant.same
+    ∙ rw c.if-may_end.false at
+    (at_end D.form (D.place draft) (D.script draft) c.loop-rest.number c.loop-rest.rest.now
+    c.may_end.result (omega (arith, c.loop-rest-test.false)) c.may_end.ensures)

@@ -9,7 +9,8 @@ abbrev pub invariant-loop-rest : goal.invariant-loop-rest
 invariant-loop-rest g l =
     let D = g.D.Draft in
     record {
-      same : read_lines D.form (D.place l.draft) (D.script l.draft) l.number (lines_of l.rest) ≡ read_script D.form l.fn.text;
+      same : read_lines D.form (D.place l.draft) (D.script l.draft) l.number (lines_of l.rest) ≡ read_script
+          D.form l.fn.text;
       few : l.number + length l.rest ≤ length l.fn.text;
       holds : D.Holds (D.script l.draft);
     }

@@ -13,4 +13,5 @@ returns-in-Some-SslNegotiation-None g c =
     let found = rw is at c.in_ok-found.ensures.exact in
     let spelled = rw is at c.in_ok-found.ensures.found in
     let next = rw c.past_requests.ensures at c.decode_from-in-Some-SslNegotiation-None.ensures.exact in
-    first_instead c.args.context.now old mid new c.decode_from-in-Some-SslNegotiation-None.result found spelled next
+    first_instead c.args.context.now old mid new c.decode_from-in-Some-SslNegotiation-None.result found spelled
+    next

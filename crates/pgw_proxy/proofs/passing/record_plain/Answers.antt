@@ -24,8 +24,15 @@ loop-end-preserved c =
     let cut : piece ≡ take end (drop n bytes) = ap (λ (k : ℕ). take k (drop n bytes)) (omega arith) in
     record {
       within = omega (arith, to.1, length-drop n bytes, inv.within);
-      tapes = tapes_on c.args.side c.args.ready bytes (drop n bytes) piece n end c.args.tape.now.items c.loop-end.tape.items c.put_record.new.tape.items inv.tapes refl cut to c.in-Ok.ensures.ok;
-      part = (inv.part.0 ++ relay_entry c.args.side piece, c.in-Ok.ensures.ok ∙ ap (λ (l : List ℕ). l ++ relay_entry c.args.side piece) inv.part.1 ∙ append_assoc c.args.tape.now.items inv.part.0 (relay_entry c.args.side piece));
+      tapes =
+          tapes_on c.args.side c.args.ready bytes (drop n bytes) piece n end c.args.tape.now.items
+          c.loop-end.tape.items c.put_record.new.tape.items inv.tapes refl cut to c.in-Ok.ensures.ok;
+      part = (
+        inv.part.0 ++ relay_entry c.args.side piece,
+        c.in-Ok.ensures.ok
+            ∙ ap (λ (l : List ℕ). l ++ relay_entry c.args.side piece) inv.part.1
+            ∙ append_assoc c.args.tape.now.items inv.part.0 (relay_entry c.args.side piece),
+      );
     }
 
 pub loop-end-smaller : goal.loop-end-smaller

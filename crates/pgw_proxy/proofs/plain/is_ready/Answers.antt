@@ -4,4 +4,6 @@ use Rattle.pgw_proxy.proofs.PlainLaws.{ready_is}
 use Rattle.pgw_proxy.proofs.plain.is_ready.Goals as goal
 
 pub returns : goal.returns
-returns c = OnTrue_from c.is_status.result _ (λ is. ready_is c.args.body.now (omega arith) (OnTrue_at is c.is_status.ensures))
+returns c =
+    OnTrue_from c.is_status.result _
+    (λ is. ready_is c.args.body.now (omega arith) (OnTrue_at is c.is_status.ensures))

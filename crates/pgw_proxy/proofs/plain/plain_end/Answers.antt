@@ -8,5 +8,6 @@ returns-then-is_plain c =
       omega arith,
       omega (arith, found.0.1, found.1),
       omega arith,
-      plain_up c.args.side c.args.ready c.args.bytes.now _ c.in-Some.end _ refl refl (omega arith) (omega (arith, found.0.1, found.1)) found.1 c.if-is_plain.ensures,
+      plain_up c.args.side c.args.ready c.args.bytes.now _ c.in-Some.end _ refl refl (omega arith)
+          (omega (arith, found.0.1, found.1)) found.1 c.if-is_plain.ensures,
     )

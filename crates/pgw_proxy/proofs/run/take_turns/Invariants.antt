@@ -12,6 +12,8 @@ invariant-loop-side g l = record {
       (span g.B.Link.tape g.B.Link.left g.B.Link.faults l.fn.server l.server));
   client_kept : g.A.Link.plan l.client ≡ g.A.Link.plan l.fn.client;
   server_kept : g.B.Link.plan l.server ≡ g.B.Link.plan l.fn.server;
-  client : g.A.Link.foretells → IsRelayForetold (span g.A.Link.tape g.A.Link.left g.A.Link.faults l.fn.client l.client);
-  server : g.B.Link.foretells → IsRelayForetold (span g.B.Link.tape g.B.Link.left g.B.Link.faults l.fn.server l.server);
+  client : g.A.Link.foretells
+      → IsRelayForetold (span g.A.Link.tape g.A.Link.left g.A.Link.faults l.fn.client l.client);
+  server : g.B.Link.foretells
+      → IsRelayForetold (span g.B.Link.tape g.B.Link.left g.B.Link.faults l.fn.server l.server);
 }

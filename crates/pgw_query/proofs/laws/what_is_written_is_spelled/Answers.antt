@@ -8,13 +8,32 @@ use Rattle.pgw_query.proofs.laws.what_is_written_is_spelled.Goals as goal
 
 pub returns : goal.returns
 returns c = record {
-  query = λ m g sound is. typed_written 81 1073741822 SpellsQuery m (refused_if (has_zero m.query)) (text m.query) g (lit< tt) is (λ fine. text_written m.query (unrefused _ fine) sound);
-  command_complete = λ m g sound is. typed_written 67 30000 SpellsCommandComplete m (refused_if (has_zero m.tag)) (text m.tag) g (lit< tt) is (λ fine. text_written m.tag (unrefused _ fine) sound);
-  ready_for_query = λ m g is. typed_written 90 30000 SpellsReadyForQuery m None (status_byte m.status ∷ []) g (lit< tt) is (λ fine. status_written m.status);
-  error_response = λ m g sound is. typed_written 69 2147483647 SpellsErrorResponse m (codes_fault m.fields) (codes m.fields) g (lit< tt) is (λ fine. codes_written m.fields sound fine);
-  notice_response = λ m g sound is. typed_written 78 2147483647 SpellsNoticeResponse m (codes_fault m.fields) (codes m.fields) g (lit< tt) is (λ fine. codes_written m.fields sound fine);
-  notification_response = λ m g sound is. typed_written 65 2147483647 SpellsNotificationResponse m (refused_if (is_notification_refused m)) (notification_response m) g (lit< tt) is (λ fine. notification_response_written m sound fine);
-  parameter_description = λ m g sound is. typed_written 116 2147483647 SpellsParameterDescription m (refused_if (is_too_long m.types)) (counted16 u32 m.types) g (lit< tt) is (λ fine. parameter_description_written m sound fine);
-  row_description = λ m g sound is. typed_written 84 2147483647 SpellsRowDescription m (refused_if (is_refused m.fields)) (row_description m) g (lit< tt) is (λ fine. row_description_written m sound (unrefused _ fine));
-  data_row = λ m g sound is. typed_written 68 2147483647 SpellsDataRow m None (data_row m) g (lit< tt) is (λ fine. data_row_written m sound);
+  query =
+      λ m g sound is. typed_written 81 1073741822 SpellsQuery m (refused_if (has_zero m.query)) (text m.query) g
+      (lit< tt) is (λ fine. text_written m.query (unrefused _ fine) sound);
+  command_complete =
+      λ m g sound is. typed_written 67 30000 SpellsCommandComplete m (refused_if (has_zero m.tag)) (text m.tag) g
+      (lit< tt) is (λ fine. text_written m.tag (unrefused _ fine) sound);
+  ready_for_query =
+      λ m g is. typed_written 90 30000 SpellsReadyForQuery m None (status_byte m.status ∷ []) g (lit< tt) is
+      (λ fine. status_written m.status);
+  error_response =
+      λ m g sound is. typed_written 69 2147483647 SpellsErrorResponse m (codes_fault m.fields) (codes m.fields) g
+      (lit< tt) is (λ fine. codes_written m.fields sound fine);
+  notice_response =
+      λ m g sound is. typed_written 78 2147483647 SpellsNoticeResponse m (codes_fault m.fields) (codes m.fields) g
+      (lit< tt) is (λ fine. codes_written m.fields sound fine);
+  notification_response =
+      λ m g sound is. typed_written 65 2147483647 SpellsNotificationResponse m
+      (refused_if (is_notification_refused m)) (notification_response m) g (lit< tt) is
+      (λ fine. notification_response_written m sound fine);
+  parameter_description =
+      λ m g sound is. typed_written 116 2147483647 SpellsParameterDescription m (refused_if (is_too_long m.types))
+      (counted16 u32 m.types) g (lit< tt) is (λ fine. parameter_description_written m sound fine);
+  row_description =
+      λ m g sound is. typed_written 84 2147483647 SpellsRowDescription m (refused_if (is_refused m.fields))
+      (row_description m) g (lit< tt) is (λ fine. row_description_written m sound (unrefused _ fine));
+  data_row =
+      λ m g sound is. typed_written 68 2147483647 SpellsDataRow m None (data_row m) g (lit< tt) is
+      (λ fine. data_row_written m sound);
 }

@@ -8,16 +8,23 @@ use Rattle.pgw_wire.specs.Framing.{saturated, body_or, encoded}
 use Rattle.pgw_wire.proofs.Laws.{ok_is}
 use Rattle.pgw_query.proofs.simplequery.encode_query.Goals as goal
 
-cut_back : (before header after cut : List ℕ) (start : ℕ) → cut ≡ take start after → after ≡ before ++ header → start ≡ length before → cut ≡ before
+cut_back : (before header after cut : List ℕ) (start : ℕ) → cut ≡ take start after → after ≡ before ++ header
+    → start ≡ length before → cut ≡ before
 cut_back before header after cut start is whole at = rw (is, whole, at) (take-append_seam before header)
 
 refused : (limit : ℕ) (fault : Option PgWireError) (body : List ℕ) (e : PgWireError)
-    → saturated (length body + 4) ≤ limit → body_or fault body ≡ Err e → encoded (Typed 81) limit fault body ≡ Err e
+    → saturated (length body + 4) ≤ limit → body_or fault body ≡ Err e
+    → encoded (Typed 81) limit fault body ≡ Err e
 unfolding encoded
 refused limit None body e fits is = absurd cc
 refused limit (Some d) body e fits is = rw (le-ltb limit (saturated (length body + 4)) fits) is
 
 pub returns-in-Err : goal.returns-in-Err
 returns-in-Err c =
-    let whole = ok_is _ _ c.in_ok-put_header.ensures in
-    (cut_back c.args.buf.now.items _ c.append_text.new.buf.items c.truncate.new.self.items c.len-start.result c.truncate.ensures.items (c.in-Err.ensures.0 ∙ sym whole) c.len-start.ensures.value, λ known. refused 1073741822 _ _ c.in-Err.e (omega arith) (c.in-Err.ensures.1 known))
+    let whole = ok_is _ _ c.in_ok-put_header.ensures in (
+      cut_back c.args.buf.now.items _ c.append_text.new.buf.items c.truncate.new.self.items c.len-start.result
+          c.truncate.ensures.items (c.in-Err.ensures.0
+          ∙ sym whole) c.len-start.ensures.value,
+      λ known. refused 1073741822 _ _ c.in-Err.e (omega arith)
+          (c.in-Err.ensures.1 known),
+    )

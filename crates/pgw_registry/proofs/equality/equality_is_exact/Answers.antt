@@ -16,7 +16,9 @@ returns-clause-phase c phase.Replaced phase.Replaced = (λ e. refl, λ e. refl)
 returns-clause-phase c x y = (λ e. absurd cc, λ e. absurd cc)
 
 pub returns-clause-handle : goal.returns-clause-handle
-returns-clause-handle c = made_exact {Y = Handle} (λ x. (x.active, x.holders)) (λ p. record { active = p.0; holders = p.1 }) (λ x. refl) _ (both_exact _ _ (option_exact _ Decides-eqb) Decides-eqb)
+returns-clause-handle c =
+    made_exact {Y = Handle} (λ x. (x.active, x.holders)) (λ p. record { active = p.0; holders = p.1 }) (λ x. refl)
+    _ (both_exact _ _ (option_exact _ Decides-eqb) Decides-eqb)
 
 pub returns-clause-registry_error : goal.returns-clause-registry_error
 returns-clause-registry_error c registry.Gone registry.Gone = (λ e. refl, λ e. refl)

@@ -11,8 +11,12 @@ returns-in-Some-clause-ok c =
     let there = c.in-Some.ensures.value in
     let outer = ((c.get_mut.follows.holds now).3 (subst IsSome there refl)).0 in
     on_ok_from c.add_key.result
-    (λ written. changed c.args.numbers.now.entries (c.get_mut.follows.lender now).entries c.args.pid.now c.args.key.items (Some c.args.handle) (Some now) outer
-    (λ q. in_some now q ∙ written q ∙ ap (cond (eq_by_cmp bytes_cmp c.args.key.items q) (Some c.args.handle)) (sym (in_some c.in-Some.keys.now q) ∙ ap (λ o. in_number o q) there)))
+    (λ written. changed c.args.numbers.now.entries (c.get_mut.follows.lender now).entries c.args.pid.now
+    c.args.key.items (Some c.args.handle) (Some now) outer
+    (λ q. in_some now q ∙ written q
+    ∙ ap (cond (eq_by_cmp bytes_cmp c.args.key.items q) (Some c.args.handle))
+    (sym (in_some c.in-Some.keys.now q)
+    ∙ ap (λ o. in_number o q) there)))
     c.add_key.ensures.ok
 
 pub returns-in-Some-clause-err : goal.returns-in-Some-clause-err
@@ -21,5 +25,6 @@ returns-in-Some-clause-err c =
     let there = c.in-Some.ensures.value in
     let outer = ((c.get_mut.follows.holds now).3 (subst IsSome there refl)).0 in
     on_err_from c.add_key.result
-    (λ same. unchanged c.args.numbers.now.entries (c.get_mut.follows.lender now).entries c.args.pid.now c.in-Some.keys.now now (sym there) same outer)
+    (λ same. unchanged c.args.numbers.now.entries (c.get_mut.follows.lender now).entries c.args.pid.now
+    c.in-Some.keys.now now (sym there) same outer)
     c.add_key.ensures.err

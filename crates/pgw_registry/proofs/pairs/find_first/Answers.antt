@@ -9,4 +9,5 @@ returns-in-Some c = c.of_one.ensures ∙ ap (λ o. in_one o c.args.key.now) c.in
 
 pub returns-in-None : goal.returns-in-None
 unfolding at_first
-returns-in-None c = sym (nothing_stands c.args.key.now) ∙ ap (λ o. in_one o c.args.key.now) c.in-None.ensures.value
+returns-in-None c =
+    sym (nothing_stands c.args.key.now) ∙ ap (λ o. in_one o c.args.key.now) c.in-None.ensures.value

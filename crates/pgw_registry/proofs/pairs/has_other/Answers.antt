@@ -8,4 +8,5 @@ unfolding is_other_key
 returns-in-Some c = ap not c.is_key.ensures ∙ ap (λ o. is_other_key o c.args.key.now) c.in-Some.ensures.value
 
 pub returns-in-None : goal.returns-in-None
-returns-in-None c = sym (none_other c.args.key.now) ∙ ap (λ o. is_other_key o c.args.key.now) c.in-None.ensures.value
+returns-in-None c =
+    sym (none_other c.args.key.now) ∙ ap (λ o. is_other_key o c.args.key.now) c.in-None.ensures.value

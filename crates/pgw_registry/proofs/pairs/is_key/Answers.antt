@@ -7,4 +7,5 @@ use Rattle.pgw_registry.proofs.pairs.is_key.Goals as goal
 
 pub returns : goal.returns
 returns c = key_tells c.eq.result c.args.one.now.key.items c.args.key.now
-    (slice_eq-Decides Decides-eqb c.args.one.now.key.items c.args.key.now c.eq.result (c.eq.ensures ∙ ap (λ xs. pointwise eqb xs c.args.key.now) c.as_slice.ensures.value))
+    (slice_eq-Decides Decides-eqb c.args.one.now.key.items c.args.key.now c.eq.result (c.eq.ensures
+    ∙ ap (λ xs. pointwise eqb xs c.args.key.now) c.as_slice.ensures.value))

@@ -4,7 +4,14 @@ use Rattle.pgw_registry.proofs.Steps.{merges, looks}
 use Rattle.pgw_registry.proofs.turn.take_in.Goals as goal
 
 pub join_seat-requires : goal.join_seat-requires
-join_seat-requires c = (search rules, search rules, search rules, search rules, merges _ _ _ _ c.requires.idle.0 c.requires.idle.1 c.requires.parts.0 c.requires.parts.1)
+join_seat-requires c = (
+  search rules,
+  search rules,
+  search rules,
+  search rules,
+  merges _ _ _ _ c.requires.idle.0 c.requires.idle.1
+      c.requires.parts.0 c.requires.parts.1,
+)
 
 pub load-requires : goal.load-requires
 load-requires c = (search rules, search rules, looks _ _ _)

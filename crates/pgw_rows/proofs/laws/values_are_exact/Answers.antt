@@ -10,9 +10,12 @@ was_ok (Ok y) x e = cc
 was_ok (Err d) x e = absurd cc
 
 pub returns-clause-found : goal.returns-clause-found
-returns-clause-found c = λ bytes value rest short e. nullable_reads.found bytes value rest short (was_ok (nullable_at bytes) (value, rest) e)
+returns-clause-found c =
+    λ bytes value rest short e. nullable_reads.found bytes value rest short
+    (was_ok (nullable_at bytes) (value, rest) e)
 
 pub returns-clause-given : goal.returns-clause-given
 returns-clause-given c = λ value values bytes h.
-    let given : nullable_at bytes ≡ Ok (value, h.1) = ap nullable_at h.2 ∙ nullable_reads.only value h.0 h.1 h.3 in
+    let given : nullable_at bytes ≡ Ok (value, h.1) =
+    ap nullable_at h.2 ∙ nullable_reads.only value h.0 h.1 h.3 in
     (h.1, ap result_ok given, h.4)

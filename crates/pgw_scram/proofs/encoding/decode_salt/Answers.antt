@@ -10,4 +10,6 @@ returns-in-Ok c = sym (ap result_ok c.in-Ok.ensures.ok)
 
 pub returns-in-Err-DecodeError : goal.returns-in-Err-DecodeError
 unfolding salt_of decoded_of
-returns-in-Err-DecodeError c = let failed = rw c.in-Err-DecodeError.field-0-is at c.in-Err-DecodeError.ensures.err in sym (ap result_ok failed)
+returns-in-Err-DecodeError c =
+    let failed =
+    rw c.in-Err-DecodeError.field-0-is at c.in-Err-DecodeError.ensures.err in sym (ap result_ok failed)

@@ -12,5 +12,9 @@ returns c =
     let is_salt : salt_of parts.salt ≡ Some c.in-Some.salt.items = search rules in
     replied_is c.args.login.now first c.in-Some.salt.items parts c.in_ok-reply.field-0
     c.requires begins is_salt
-    (c.in_ok-reply.ensures.message ∙ rw (c.as_str-5.ensures.value, c.in_ok-salted.ensures, c.as_str-4.ensures.value, c.deref.ensures.value) refl)
-    (c.in_ok-reply.ensures.signature ∙ rw (c.as_str-5.ensures.value, c.in_ok-salted.ensures, c.as_str-4.ensures.value, c.deref.ensures.value) refl)
+    (c.in_ok-reply.ensures.message
+    ∙ rw (c.as_str-5.ensures.value, c.in_ok-salted.ensures, c.as_str-4.ensures.value, c.deref.ensures.value)
+    refl)
+    (c.in_ok-reply.ensures.signature
+    ∙ rw (c.as_str-5.ensures.value, c.in_ok-salted.ensures, c.as_str-4.ensures.value, c.deref.ensures.value)
+    refl)

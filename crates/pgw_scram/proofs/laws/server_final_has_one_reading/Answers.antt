@@ -4,4 +4,8 @@ use Rattle.pgw_scram.proofs.MessageLaws.{server_final_reads, server_final_only}
 use Rattle.pgw_scram.proofs.laws.server_final_has_one_reading.Goals as goal
 
 pub returns : goal.returns
-returns c message reading = (λ is. subst (IsScramReading IsServerFinal message) is (server_final_reads message), server_final_only message reading)
+returns c message reading = (
+  λ is. subst (IsScramReading IsServerFinal message) is (server_final_reads message),
+  server_final_only message
+      reading,
+)

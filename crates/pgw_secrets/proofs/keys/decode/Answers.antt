@@ -10,4 +10,5 @@ returns-in-Ok c = (sym c.as_bytes.ensures.value ∙ c.in-Ok.ensures.exact (refl,
 pub returns-in-Err-DecodeError : goal.returns-in-Err-DecodeError
 returns-in-Err-DecodeError c = λ bytes e is.
     let failed = rw c.in-Err-DecodeError.field-0-is at c.in-Err-DecodeError.ensures.err in
-    not_decoded c.as_bytes.result.now bytes c.in-Err-DecodeError.field-0-0 failed (c.as_bytes.ensures.value ∙ e) is
+    not_decoded c.as_bytes.result.now bytes c.in-Err-DecodeError.field-0-0 failed (c.as_bytes.ensures.value
+    ∙ e) is

@@ -7,5 +7,7 @@ returns c = record {
   unread = ended_unread;
   refused = ended_refused;
   unencoded = unencoded;
-  waits = λ input taken sent pending t is. (waits_at input taken sent pending t is, unfinished input taken sent pending t is);
+  waits =
+      λ input taken sent pending t is.
+      (waits_at input taken sent pending t is, unfinished input taken sent pending t is);
 }

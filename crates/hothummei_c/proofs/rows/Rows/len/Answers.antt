@@ -6,4 +6,5 @@ use Rattle.hothummei_c.proofs.rows.Rows.len.Goals as goal
 pub returns : goal.returns
 returns c =
     let runs = c.self.inside.runs.items in
-    ap length c.as_slice.ensures.value ∙ as_many runs c.self.inside.places.items (rows_of runs) c.self.invariant ∙ ap length c.self.view_is
+    ap length c.as_slice.ensures.value ∙ as_many runs c.self.inside.places.items (rows_of runs) c.self.invariant
+    ∙ ap length c.self.view_is

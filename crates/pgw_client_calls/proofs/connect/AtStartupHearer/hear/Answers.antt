@@ -5,4 +5,6 @@ use Rattle.pgw_client_calls.proofs.connect.AtStartupHearer.hear.Goals as goal
 
 pub returns-clause-heard : goal.returns-clause-heard
 returns-clause-heard g c =
-    rw (← c.self.view_is) (heard_further (HeardAtStartup g.S.StartupHandler.exchanges g.S.StartupHandler.means) goes_on_never _ _ _ _ _ _ _ c.hear_at_startup.result c.hear_at_startup.ensures.heard)
+    rw (← c.self.view_is)
+    (heard_further (HeardAtStartup g.S.StartupHandler.exchanges g.S.StartupHandler.means) goes_on_never _ _ _
+    _ _ _ _ c.hear_at_startup.result c.hear_at_startup.ensures.heard)

@@ -12,12 +12,18 @@ invariant-messages g l = record {
   usable : l.self.desk.broken ≡ false;
   limit : l.self.limit ≡ l.fn.self.limit;
   config : l.self.desk.config ≡ l.fn.self.desk.config;
-  foretold : g.L.Link.foretells → (is : Option (List ℕ)) (now : Tape) → Foretold (g.L.Link.left l.self.link) is (g.L.Link.tape l.self.link) now →
+  foretold : g.L.Link.foretells → (is : Option (List ℕ)) (now : Tape)
+      → Foretold (g.L.Link.left l.self.link) is (g.L.Link.tape l.self.link) now →
       Foretold (g.L.Link.left l.fn.self.link) is (g.L.Link.tape l.fn.self.link) now;
   later : g.L.Link.faults l.fn.self.link ≤ g.L.Link.faults l.self.link;
   exchanged : (final : Line) (last : Finish _ _) →
-      LineExchange g.H.ExtendedQueryHandler.means l.fn.kind l.handler (client_of l.self.desk) (as_lists g.H.Responses.ResponseList.listed l.gathered) (line (g.L.Link.tape l.self.link) (g.L.Link.faults l.self.link) l.self.inbox l.self.read l.self.limit) final last →
-      LineExchange g.H.ExtendedQueryHandler.means l.fn.kind l.fn.handler (client_of l.fn.self.desk) none_gathered (line (g.L.Link.tape l.fn.self.link) (g.L.Link.faults l.fn.self.link) l.fn.self.inbox l.fn.self.read l.fn.self.limit) final last;
+      LineExchange g.H.ExtendedQueryHandler.means l.fn.kind l.handler (client_of l.self.desk)
+      (as_lists g.H.Responses.ResponseList.listed l.gathered)
+      (line (g.L.Link.tape l.self.link) (g.L.Link.faults l.self.link) l.self.inbox l.self.read
+      l.self.limit) final last →
+      LineExchange g.H.ExtendedQueryHandler.means l.fn.kind l.fn.handler (client_of l.fn.self.desk) none_gathered
+      (line (g.L.Link.tape l.fn.self.link) (g.L.Link.faults l.fn.self.link) l.fn.self.inbox l.fn.self.read
+      l.fn.self.limit) final last;
 }
 
 abbrev pub decreases-messages : goal.decreases-messages

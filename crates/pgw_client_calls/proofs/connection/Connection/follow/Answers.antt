@@ -12,7 +12,10 @@ returns-in-Ok-put_out-clause-follows g c =
 pub returns-in-Err-put_out-clause-follows : goal.returns-in-Err-put_out-clause-follows
 returns-in-Err-put_out-clause-follows g c =
     let p = c.in-Err-put_out.ensures in
-    followed_cut _ _ _ _ _ _ _ _ c.in-Ok.state c.in-Err-put_out.error _ _ c.if-self.false c.in-Ok.is p.puts p.client p.broken
+    followed_cut _ _ _ _ _ _ _ _ c.in-Ok.state c.in-Err-put_out.error _ _ c.if-self.false c.in-Ok.is p.puts
+    p.client p.broken
 
 pub returns-in-Err-clause-follows : goal.returns-in-Err-clause-follows
-returns-in-Err-clause-follows g c = followed_error _ _ _ _ _ _ _ _ c.in-Err.error c.give_up.result _ _ c.if-self.false c.in-Err.is c.give_up.ensures.gives_up
+returns-in-Err-clause-follows g c =
+    followed_error _ _ _ _ _ _ _ _ c.in-Err.error c.give_up.result _ _ c.if-self.false c.in-Err.is
+    c.give_up.ensures.gives_up

@@ -16,8 +16,12 @@ invariant-reads g l = record {
       (g.L.Link.tape l.fn.self.link) (g.L.Link.tape l.self.link);
   later : g.L.Link.faults l.fn.self.link ≤ g.L.Link.faults l.self.link;
   came : (final : Line) (r : Result Backend ClientError) →
-      MessageCame (client_of l.self.desk) (line (g.L.Link.tape l.self.link) (g.L.Link.faults l.self.link) l.self.inbox l.self.read l.self.limit) final r →
-      MessageCame (client_of l.fn.self.desk) (line (g.L.Link.tape l.fn.self.link) (g.L.Link.faults l.fn.self.link) l.fn.self.inbox l.fn.self.read l.fn.self.limit) final r;
+      MessageCame (client_of l.self.desk)
+      (line (g.L.Link.tape l.self.link) (g.L.Link.faults l.self.link) l.self.inbox l.self.read l.self.limit)
+      final r →
+      MessageCame (client_of l.fn.self.desk)
+      (line (g.L.Link.tape l.fn.self.link) (g.L.Link.faults l.fn.self.link) l.fn.self.inbox l.fn.self.read
+      l.fn.self.limit) final r;
 }
 
 abbrev pub decreases-reads : goal.decreases-reads

@@ -21,8 +21,12 @@ invariant-messages g l = record {
       (g.L.Link.tape l.fn.self.link) (g.L.Link.tape l.self.link);
   later : g.L.Link.faults l.fn.self.link ≤ g.L.Link.faults l.self.link;
   passed : (final : Line) (x : ClientError) (last : Client) (broken : Bool) →
-      PassedOver l.error (client_of l.self.desk) (line (g.L.Link.tape l.self.link) (g.L.Link.faults l.self.link) l.self.inbox l.self.read l.self.limit) final x last broken →
-      PassedOver l.fn.error (client_of l.fn.self.desk) (line (g.L.Link.tape l.fn.self.link) (g.L.Link.faults l.fn.self.link) l.fn.self.inbox l.fn.self.read l.fn.self.limit) final x last broken;
+      PassedOver l.error (client_of l.self.desk)
+      (line (g.L.Link.tape l.self.link) (g.L.Link.faults l.self.link) l.self.inbox l.self.read l.self.limit)
+      final x last broken →
+      PassedOver l.fn.error (client_of l.fn.self.desk)
+      (line (g.L.Link.tape l.fn.self.link) (g.L.Link.faults l.fn.self.link) l.fn.self.inbox l.fn.self.read
+      l.fn.self.limit) final x last broken;
 }
 
 abbrev pub decreases-messages : goal.decreases-messages

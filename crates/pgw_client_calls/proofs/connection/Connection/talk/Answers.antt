@@ -9,7 +9,10 @@ messages-preserved g c =
       usable = c.in-Ok-Pending.ensures.usable;
       limit = h.limit ∙ c.messages.invariant.limit;
       config = h.config ∙ c.messages.invariant.config;
-      foretold = λ t is now rest. c.messages.invariant.foretold t is now (foretold_on _ _ _ _ _ _ (g.met.L.Link.knows t c.hear.new.connection.link) (c.hear.ensures.foretold t) rest);
+      foretold =
+          λ t is now rest. c.messages.invariant.foretold t is now
+          (foretold_on _ _ _ _ _ _ (g.met.L.Link.knows t c.hear.new.connection.link)
+          (c.hear.ensures.foretold t) rest);
       later = omega (arith, c.messages.invariant.later, h.cause.later);
       talked = λ final last rest.
           let one = rw c.in-Ok-Pending.field-0-is at c.in-Ok-Pending.ensures.heard in

@@ -8,8 +8,16 @@ use Rattle.pgw_client_calls.proofs.extended.ExtendedQueryClient.bind.Goals as go
 
 pub returns-in-Ok-clause-asks : goal.returns-in-Ok-clause-asks
 returns-in-Ok-clause-asks g c =
-    asks_as g.L.Link.foretells g.L.Link.left g.L.Link.tape g.L.Link.faults g.H.ExtendedQueryHandler.means g.H.Responses.ResponseList.listed (request.Bind (option_copied c.args.portal) (option_copied c.args.statement) c.args.params c.args.result_formats) _ _ _ no_answer _ c.ask.result _ (ap (gathered_as no_answer) (sym c.in-Ok.is)) (c.ask.ensures.asks _ c.bind-request.ensures)
+    asks_as g.L.Link.foretells g.L.Link.left g.L.Link.tape g.L.Link.faults g.H.ExtendedQueryHandler.means
+    g.H.Responses.ResponseList.listed
+    (request.Bind (option_copied c.args.portal) (option_copied c.args.statement) c.args.params
+    c.args.result_formats) _ _ _ no_answer _ c.ask.result _
+    (ap (gathered_as no_answer) (sym c.in-Ok.is)) (c.ask.ensures.asks _ c.bind-request.ensures)
 
 pub returns-clause-asks : goal.returns-clause-asks
 returns-clause-asks g c =
-    asks_as g.L.Link.foretells g.L.Link.left g.L.Link.tape g.L.Link.faults g.H.ExtendedQueryHandler.means g.H.Responses.ResponseList.listed (request.Bind (option_copied c.args.portal) (option_copied c.args.statement) c.args.params c.args.result_formats) _ _ _ no_answer _ c.ask.result _ (ap (gathered_as no_answer) (sym c.in-Err.is)) (c.ask.ensures.asks _ c.bind-request.ensures)
+    asks_as g.L.Link.foretells g.L.Link.left g.L.Link.tape g.L.Link.faults g.H.ExtendedQueryHandler.means
+    g.H.Responses.ResponseList.listed
+    (request.Bind (option_copied c.args.portal) (option_copied c.args.statement) c.args.params
+    c.args.result_formats) _ _ _ no_answer _ c.ask.result _
+    (ap (gathered_as no_answer) (sym c.in-Err.is)) (c.ask.ensures.asks _ c.bind-request.ensures)

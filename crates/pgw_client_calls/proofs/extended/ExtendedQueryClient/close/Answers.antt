@@ -8,8 +8,12 @@ use Rattle.pgw_client_calls.proofs.extended.ExtendedQueryClient.close.Goals as g
 
 pub returns-in-Ok-clause-asks : goal.returns-in-Ok-clause-asks
 returns-in-Ok-clause-asks g c =
-    asks_as g.L.Link.foretells g.L.Link.left g.L.Link.tape g.L.Link.faults g.H.ExtendedQueryHandler.means g.H.Responses.ResponseList.listed (request.Close (target_of c.args.target)) _ _ _ no_answer _ c.ask.result _ (ap (gathered_as no_answer) (sym c.in-Ok.is)) (c.ask.ensures.asks _ c.close.ensures)
+    asks_as g.L.Link.foretells g.L.Link.left g.L.Link.tape g.L.Link.faults g.H.ExtendedQueryHandler.means
+    g.H.Responses.ResponseList.listed (request.Close (target_of c.args.target)) _ _ _ no_answer _ c.ask.result
+    _ (ap (gathered_as no_answer) (sym c.in-Ok.is)) (c.ask.ensures.asks _ c.close.ensures)
 
 pub returns-clause-asks : goal.returns-clause-asks
 returns-clause-asks g c =
-    asks_as g.L.Link.foretells g.L.Link.left g.L.Link.tape g.L.Link.faults g.H.ExtendedQueryHandler.means g.H.Responses.ResponseList.listed (request.Close (target_of c.args.target)) _ _ _ no_answer _ c.ask.result _ (ap (gathered_as no_answer) (sym c.in-Err.is)) (c.ask.ensures.asks _ c.close.ensures)
+    asks_as g.L.Link.foretells g.L.Link.left g.L.Link.tape g.L.Link.faults g.H.ExtendedQueryHandler.means
+    g.H.Responses.ResponseList.listed (request.Close (target_of c.args.target)) _ _ _ no_answer _ c.ask.result
+    _ (ap (gathered_as no_answer) (sym c.in-Err.is)) (c.ask.ensures.asks _ c.close.ensures)

@@ -8,8 +8,14 @@ use Rattle.pgw_client_calls.proofs.extended.ExtendedQueryClient.describe.Goals a
 
 pub returns-in-Ok-clause-asks : goal.returns-in-Ok-clause-asks
 returns-in-Ok-clause-asks g c =
-    asks_as g.L.Link.foretells g.L.Link.left g.L.Link.tape g.L.Link.faults g.H.ExtendedQueryHandler.means g.H.Responses.ResponseList.listed (request.Describe (target_of c.args.target)) _ _ _ description_of _ c.ask.result _ (ap (gathered_as description_of) (sym c.in-Ok.is)) (c.ask.ensures.asks _ c.describe.ensures)
+    asks_as g.L.Link.foretells g.L.Link.left g.L.Link.tape g.L.Link.faults g.H.ExtendedQueryHandler.means
+    g.H.Responses.ResponseList.listed (request.Describe (target_of c.args.target)) _ _ _ description_of _
+    c.ask.result _ (ap (gathered_as description_of) (sym c.in-Ok.is))
+    (c.ask.ensures.asks _ c.describe.ensures)
 
 pub returns-in-Err-clause-asks : goal.returns-in-Err-clause-asks
 returns-in-Err-clause-asks g c =
-    asks_as g.L.Link.foretells g.L.Link.left g.L.Link.tape g.L.Link.faults g.H.ExtendedQueryHandler.means g.H.Responses.ResponseList.listed (request.Describe (target_of c.args.target)) _ _ _ description_of _ c.ask.result _ (ap (gathered_as description_of) (sym c.in-Err.is)) (c.ask.ensures.asks _ c.describe.ensures)
+    asks_as g.L.Link.foretells g.L.Link.left g.L.Link.tape g.L.Link.faults g.H.ExtendedQueryHandler.means
+    g.H.Responses.ResponseList.listed (request.Describe (target_of c.args.target)) _ _ _ description_of _
+    c.ask.result _ (ap (gathered_as description_of) (sym c.in-Err.is))
+    (c.ask.ensures.asks _ c.describe.ensures)

@@ -8,5 +8,6 @@ pub returns : goal.returns
 returns c = record {
   reported = c.into_report.ensures;
   completed = λ input limit given put stands.
-      subst (Completed input (taken_of limit given) put) (sym c.into_report.ensures) (done_completed input limit c.args.self given put c.requires stands);
+      subst (Completed input (taken_of limit given) put) (sym c.into_report.ensures)
+      (done_completed input limit c.args.self given put c.requires stands);
 }

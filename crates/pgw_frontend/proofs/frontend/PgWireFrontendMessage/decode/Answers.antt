@@ -2,7 +2,11 @@ use Rattle.pgw_frontend.proofs.FrontendLaws.{is_found, is_only}
 use Rattle.pgw_frontend.proofs.frontend.PgWireFrontendMessage.decode.Goals as goal
 
 pub returns-clause-found : goal.returns-clause-found
-returns-clause-found c = is_found c.args.ctx.now c.args.buf.now.items c.decode_exact.new.buf.items c.decode_exact.result c.decode_exact.ensures
+returns-clause-found c =
+    is_found c.args.ctx.now c.args.buf.now.items c.decode_exact.new.buf.items c.decode_exact.result
+    c.decode_exact.ensures
 
 pub returns-clause-only : goal.returns-clause-only
-returns-clause-only c = is_only c.args.ctx.now c.args.buf.now.items c.decode_exact.new.buf.items c.decode_exact.result c.decode_exact.ensures
+returns-clause-only c =
+    is_only c.args.ctx.now c.args.buf.now.items c.decode_exact.new.buf.items c.decode_exact.result
+    c.decode_exact.ensures

@@ -5,4 +5,7 @@ use Rattle.pgw_hash.proofs.hmac.Hmac.code_of_parts.Goals as goal
 
 pub returns : goal.returns
 returns c key taken =
-    c.finalize.ensures key _ (c.update-2.ensures key _ (c.update.ensures key [] (subst (λ (code : Hmac). HasTaken key [] code) (sym c.copy-code.ensures) taken)))
+    c.finalize.ensures key _
+    (c.update-2.ensures key _
+    (c.update.ensures key []
+    (subst (λ (code : Hmac). HasTaken key [] code) (sym c.copy-code.ensures) taken)))

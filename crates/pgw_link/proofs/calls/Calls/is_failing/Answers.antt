@@ -11,9 +11,13 @@ invariant_of-self c =
     let next = c.saturating_add-self.result in
     let numbers = c.args.self.now.numbers in
     let more = is_reached-more numbers made next (omega arith) (omega arith) (omega arith) in
-    let found : list_any (λ n. n == next) numbers ≡ true = rw c.as_slice.ensures at (sym c.contains-fails.ensures.value) ∙ c.if-fails.true in
+    let found : list_any (λ n. n == next) numbers ≡ true =
+    rw c.as_slice.ensures at (sym c.contains-fails.ensures.value) ∙ c.if-fails.true in
     let some : nat_lt 0 c.saturating_add-self-then-fails.result ≡ true = grind (arith, nat_tests) in
-    record { account = some ∙ sym (more ∙ ap (λ (b : Bool). is_reached numbers made || b) found ∙ or_true (is_reached numbers made)) }
+    record {
+      account = some
+          ∙ sym (more ∙ ap (λ (b : Bool). is_reached numbers made || b) found ∙ or_true (is_reached numbers made));
+    }
 
 pub invariant_of-self-else-fails : goal.invariant_of-self-else-fails
 invariant_of-self-else-fails c =
@@ -21,5 +25,10 @@ invariant_of-self-else-fails c =
     let next = c.saturating_add-self.result in
     let numbers = c.args.self.now.numbers in
     let more = is_reached-more numbers made next (omega arith) (omega arith) (omega arith) in
-    let found : list_any (λ n. n == next) numbers ≡ false = rw c.as_slice.ensures at (sym c.contains-fails.ensures.value) ∙ c.if-fails.false in
-    record { account = c.args.self.now.account ∙ sym (more ∙ ap (λ (b : Bool). is_reached numbers made || b) found ∙ or_false (is_reached numbers made)) }
+    let found : list_any (λ n. n == next) numbers ≡ false =
+    rw c.as_slice.ensures at (sym c.contains-fails.ensures.value) ∙ c.if-fails.false in
+    record {
+      account = c.args.self.now.account
+          ∙ sym (more ∙ ap (λ (b : Bool). is_reached numbers made || b) found
+          ∙ or_false (is_reached numbers made));
+    }

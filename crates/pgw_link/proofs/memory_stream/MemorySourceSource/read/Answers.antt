@@ -10,5 +10,6 @@ returns-clause-drawn c =
     let is = rw c.as_slice.ensures at c.copy_from-count.ensures.piece in
     let count = rw c.as_slice.ensures at c.copy_from-count.ensures.count in (
       taken bytes (take n c.copy_from-count.new.buf) at n is,
-      λ none room. nothing_left bytes at n (length c.args.buf.now) c.args.self.now.cut count (omega (arith, room, c.copy_from-count.auto.buf)) c.args.self.now.moves none,
+      λ none room. nothing_left bytes at n (length c.args.buf.now) c.args.self.now.cut count
+          (omega (arith, room, c.copy_from-count.auto.buf)) c.args.self.now.moves none,
     )

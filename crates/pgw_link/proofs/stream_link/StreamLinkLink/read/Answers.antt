@@ -9,4 +9,5 @@ returns-in-Ok-clause-moved g c = λ some.
     let old : Tape = tape_of c.args.self.now.log in
     let buf = c.read_some.new.buf in
     let n = c.in-Ok.count in
-    subst (λ (t : Tape). Took old t (take n buf)) (sym c.then-self.ensures) (read_took old buf n c.in-Ok.ensures.bound (omega (arith, some, c.read_some.auto.buf)))
+    subst (λ (t : Tape). Took old t (take n buf)) (sym c.then-self.ensures)
+    (read_took old buf n c.in-Ok.ensures.bound (omega (arith, some, c.read_some.auto.buf)))

@@ -10,4 +10,6 @@ returns-in_err-tell-clause-done g c =
 
 pub returns-clause-done : goal.returns-clause-done
 returns-clause-done g c =
-    did_then (c.in_ok-tell.ensures.told _ _) (did_then (did_mark (with_sasl c.args.next) _ _ c.set_sasl.ensures) (rw c.is_finished-is_finished.ensures at c.end.ensures.ended))
+    did_then (c.in_ok-tell.ensures.told _ _)
+    (did_then (did_mark (with_sasl c.args.next) _ _ c.set_sasl.ensures)
+    (rw c.is_finished-is_finished.ensures at c.end.ensures.ended))

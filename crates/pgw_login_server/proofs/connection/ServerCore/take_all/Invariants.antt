@@ -9,7 +9,8 @@ invariant-messages g l = record {
   handler : l.self.handler ≡ l.fn.self.handler;
   over : l.self.over ≡ l.fn.self.over;
   bound : l.self.bound ≡ l.fn.self.bound;
-  goes : Goes (g.H.StartupHandler.means l.fn.self.handler) (stage_of l.fn.self) l.fn.self.inbox.items (stage_of l.self) l.self.inbox.items l.fn.out.buffer.items l.out.buffer.items;
+  goes : Goes (g.H.StartupHandler.means l.fn.self.handler) (stage_of l.fn.self) l.fn.self.inbox.items
+      (stage_of l.self) l.self.inbox.items l.fn.out.buffer.items l.out.buffer.items;
 }
 
 abbrev pub decreases-messages : goal.decreases-messages

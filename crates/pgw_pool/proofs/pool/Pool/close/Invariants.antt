@@ -11,6 +11,8 @@ abbrev pub invariant-sessions : goal.invariant-sessions
 invariant-sessions g l =
     let S = session_view g.L.Link.tape g.L.Link.faults in
     record {
-      closes : ClosesIdleSessions (map S (l.fn.self.idle).items) (g.D.Dialer.tape l.fn.dialer) (g.D.Dialer.faults l.fn.dialer) (map S (l.idle).items) (g.D.Dialer.tape l.dialer) (g.D.Dialer.faults l.dialer) l.result;
+      closes : ClosesIdleSessions (map S (l.fn.self.idle).items) (g.D.Dialer.tape l.fn.dialer)
+          (g.D.Dialer.faults l.fn.dialer) (map S (l.idle).items) (g.D.Dialer.tape l.dialer)
+          (g.D.Dialer.faults l.dialer) l.result;
       offers : g.D.Dialer.foretells → g.D.Dialer.offers l.dialer ≡ g.D.Dialer.offers l.fn.dialer;
     }

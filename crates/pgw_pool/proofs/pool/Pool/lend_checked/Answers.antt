@@ -11,7 +11,8 @@ returns-in-Ok-clause-lent g c =
     let S = session_view g.L.Link.tape g.L.Link.faults in
     let first = ap (map S) c.in-Some.ensures.items in
     record {
-      checks = checks_first (V c.in-Some.session.client) (V c.look_at.new.client) _ _ _ first c.in-Ok.ensures.asked;
+      checks =
+          checks_first (V c.in-Some.session.client) (V c.look_at.new.client) _ _ _ first c.in-Ok.ensures.asked;
       below = search rules;
       next = refl;
       numbered = refl;
@@ -43,7 +44,8 @@ returns-in-Ok-clause-checked g c = λ hs are.
     let rest = map S c.pop_front.new.self.items in
     lends_checked c.args.self.now.lent _ _ hs idle rest (V c.look_at.new.client)
     (record {
-      checks = checks_first (V c.in-Some.session.client) (V c.look_at.new.client) _ _ _ first c.in-Ok.ensures.asked;
+      checks =
+          checks_first (V c.in-Some.session.client) (V c.look_at.new.client) _ _ _ first c.in-Ok.ensures.asked;
       below = search rules;
       next = refl;
       numbered = refl;
@@ -92,17 +94,21 @@ returns-in-Err-clause-stay g c = λ hs are.
     (search rules, (last, checks), c.saturating_add-self.ensures) are
 
 pub returns-in-Ok-clause-had : goal.returns-in-Ok-clause-had
-returns-in-Ok-clause-had g c = (lease_count c.in-Some.session, ap (map lease_count) c.in-Some.ensures.items, c.saturating_add-leases.ensures)
+returns-in-Ok-clause-had g c =
+    (lease_count c.in-Some.session, ap (map lease_count) c.in-Some.ensures.items, c.saturating_add-leases.ensures)
 
 pub returns-in-Ok-clause-all_counted : goal.returns-in-Ok-clause-all_counted
 returns-in-Ok-clause-all_counted g c = λ hs are.
-    lends_fit_counted hs (map lease_count c.args.self.now.idle.items) (map lease_count c.pop_front.new.self.items) c.saturating_add-leases.result
-    (lease_count c.in-Some.session, ap (map lease_count) c.in-Some.ensures.items, c.saturating_add-leases.ensures) are
+    lends_fit_counted hs (map lease_count c.args.self.now.idle.items) (map lease_count c.pop_front.new.self.items)
+    c.saturating_add-leases.result
+    (lease_count c.in-Some.session, ap (map lease_count) c.in-Some.ensures.items, c.saturating_add-leases.ensures)
+    are
 
 pub returns-in-Err-clause-leaves : goal.returns-in-Err-clause-leaves
 returns-in-Err-clause-leaves g c = (lease_count c.in-Some.session, ap (map lease_count) c.in-Some.ensures.items)
 
 pub returns-in-Err-clause-stay_counted : goal.returns-in-Err-clause-stay_counted
 returns-in-Err-clause-stay_counted g c = λ hs are.
-    stay_counted (refusal.Unfit c.in-Err.why) hs (map lease_count c.args.self.now.idle.items) (map lease_count c.pop_front.new.self.items)
+    stay_counted (refusal.Unfit c.in-Err.why) hs (map lease_count c.args.self.now.idle.items)
+    (map lease_count c.pop_front.new.self.items)
     (lease_count c.in-Some.session, ap (map lease_count) c.in-Some.ensures.items) are

@@ -14,7 +14,9 @@ pub returns-in-Ok-clause-given : goal.returns-in-Ok-clause-given
 returns-in-Ok-clause-given g c = λ hs are.
     let V = view_of g.L.Link.tape g.L.Link.faults in
     let S = session_view g.L.Link.tape g.L.Link.faults in
-    idle_one_more c.args.self.now.lent c.keep.new.self.lent hs (new_history c.args.config.now c.args.nonce) (map S c.args.self.now.idle.items) (map S c.keep.new.self.idle.items) (V c.in-Ok.client) c.keep.ensures.lent c.keep.ensures.idle are c.in-Ok.ensures.idle
+    idle_one_more c.args.self.now.lent c.keep.new.self.lent hs (new_history c.args.config.now c.args.nonce)
+    (map S c.args.self.now.idle.items) (map S c.keep.new.self.idle.items) (V c.in-Ok.client)
+    c.keep.ensures.lent c.keep.ensures.idle are c.in-Ok.ensures.idle
 
 pub returns-in-Ok-clause-foretold : goal.returns-in-Ok-clause-foretold
 returns-in-Ok-clause-foretold g c = λ t.
@@ -32,4 +34,5 @@ returns-in-Ok-clause-foretold g c = λ t.
 
 pub returns-in-Ok-clause-all_counted : goal.returns-in-Ok-clause-all_counted
 returns-in-Ok-clause-all_counted g c = λ hs are.
-    one_joins hs (new_history c.args.config.now c.args.nonce) (map lease_count c.args.self.now.idle.items) (map lease_count c.keep.new.self.idle.items) 0 c.keep.ensures.had are refl
+    one_joins hs (new_history c.args.config.now c.args.nonce) (map lease_count c.args.self.now.idle.items)
+    (map lease_count c.keep.new.self.idle.items) 0 c.keep.ensures.had are refl

@@ -9,7 +9,8 @@ still_out g c =
     let V = lease_view g.L.Link.tape g.L.Link.faults in
     let e = c.run.ensures in
     subst (λ (n : ℕ). IsOut n (leased n (V c.run.new.self))) (sym e.number)
-    (goes_on (lease_number c.self.inside.lease) c.args.request.now (V c.self.inside.lease) (V c.run.new.self) c.run.result
+    (goes_on (lease_number c.self.inside.lease) c.args.request.now (V c.self.inside.lease) (V c.run.new.self)
+    c.run.result
     (record { broken = λ b. ((e.broken b).0, ap V (e.broken b).1); asks = e.asks }) c.self.invariant)
 
 pub invariant_of-self : goal.invariant_of-self

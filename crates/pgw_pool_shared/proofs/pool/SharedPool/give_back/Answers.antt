@@ -11,12 +11,14 @@ use Rattle.pgw_pool_shared.proofs.pool.SharedPool.give_back.Goals as goal
 pub returns-then-give_back : goal.returns-then-give_back
 returns-then-give_back g c =
     let P : Out → Type 0 = λ o. (now : List View) × GivesBack o.view [] now Kept in
-    subst P c.lease.view_is (spare_view g.L.Link.tape g.L.Link.faults c.in-Ok.spare ∷ [], c.in-Ok.ensures.gives_back)
+    subst P c.lease.view_is
+    (spare_view g.L.Link.tape g.L.Link.faults c.in-Ok.spare ∷ [], c.in-Ok.ensures.gives_back)
 
 pub returns-else-give_back : goal.returns-else-give_back
 returns-else-give_back g c =
     let P : Out → Type 0 = λ o. (now : List View) × GivesBack o.view [] now Kept in
-    subst P c.lease.view_is (spare_view g.L.Link.tape g.L.Link.faults c.in-Ok.spare ∷ [], c.in-Ok.ensures.gives_back)
+    subst P c.lease.view_is
+    (spare_view g.L.Link.tape g.L.Link.faults c.in-Ok.spare ∷ [], c.in-Ok.ensures.gives_back)
 
 pub returns-in-Err : goal.returns-in-Err
 returns-in-Err g c =
@@ -28,5 +30,7 @@ invariant_of-give_back g c =
     let tape = g.L.Link.tape in
     let faults = g.L.Link.faults in
     let v = spare_view tape faults c.in-Ok.spare in
-    let back = comes_back (lease_number c.lease.inside.lease) (lease_view tape faults c.lease.inside.lease) v c.in-Ok.ensures.gives_back c.lease.invariant in
+    let back =
+    comes_back (lease_number c.lease.inside.lease) (lease_view tape faults c.lease.inside.lease) v
+    c.in-Ok.ensures.gives_back c.lease.invariant in
     (back.0, subst (λ (n : ℕ). IsIdleInPool n back.0 v) (sym c.in-Ok.ensures.number) back.1)

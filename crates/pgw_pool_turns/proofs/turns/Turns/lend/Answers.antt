@@ -14,7 +14,8 @@ returns-then-is_free-clause-lending g c =
     let is = is_served g.S.Stock.lends g.S.Stock.is_spent old new c.lend_at_once.result (inl free) lends in (
       old,
       new,
-      subst (λ (d : TurnStock g.row.S.Denot). IsCounted g.S.Stock.ready g.S.Stock.room d) same c.is_free.ensures.counted,
+      subst (λ (d : TurnStock g.row.S.Denot). IsCounted g.S.Stock.ready g.S.Stock.room d) same
+          c.is_free.ensures.counted,
       subst (Lending g.S.Stock.lends g.S.Stock.is_spent old new) (sym c.ok_or.ensures.value) is,
     )
 
@@ -27,14 +28,16 @@ returns-in-Err-clause-lending g c =
     let is = has_no_ticket g.S.Stock.is_spent old c.in-Err.error busy c.in-Err.ensures.refused in (
       old,
       old,
-      subst (λ (d : TurnStock g.row.S.Denot). IsCounted g.S.Stock.ready g.S.Stock.room d) same c.is_free.ensures.counted,
+      subst (λ (d : TurnStock g.row.S.Denot). IsCounted g.S.Stock.ready g.S.Stock.room d) same
+          c.is_free.ensures.counted,
       subst (LendsNothing g.S.Stock.is_spent old) (sym c.refusal_of.ensures) is,
     )
 
 pub returns-then-not-in_time-clause-lending : goal.returns-then-not-in_time-clause-lending
 returns-then-not-in_time-clause-lending g c =
     let old = c.deref_mut-then-not-in_time.result.now in
-    let late : ¬ IsTurn c.in-Ok.ticket old.counts = subst (λ (d : TurnStock g.row.S.Denot). ¬ IsTurn c.in-Ok.ticket d.counts)
+    let late : ¬ IsTurn c.in-Ok.ticket old.counts =
+    subst (λ (d : TurnStock g.row.S.Denot). ¬ IsTurn c.in-Ok.ticket d.counts)
     (sym c.deref_mut-then-not-in_time.ensures.value) (c.wait-desk.ensures.late c.if-not-in_time.true) in (
       old,
       old,

@@ -10,6 +10,7 @@ invariant_of-self c =
       ascend = ascend_drop 0 c.self.inside.tickets.items c.self.inside.issued (c.self.invariant.0).ascend;
       fits = omega (arith, drop_fits c.self.inside.tickets.items, (c.self.invariant.0).fits);
     } in (
-      subst (λ (ts : List ℕ). IsInOrder (row c.self.inside.room c.self.inside.issued ts)) (sym c.pop_front-served.ensures.rest) kept,
+      subst (λ (ts : List ℕ). IsInOrder (row c.self.inside.room c.self.inside.issued ts))
+          (sym c.pop_front-served.ensures.rest) kept,
       omega (arith, c.self.invariant.1, c.pop_front-served.ensures.capacity),
     )

@@ -8,5 +8,6 @@ returns-in_err-said-clause-front g c = on_err _ _ (inl (unwritten _ (sheet (g.O.
     c.args.self.now)))
 
 pub returns-in_err-print-clause-front : goal.returns-in_err-print-clause-front
-returns-in_err-print-clause-front g c = on_err _ _ (inl (unwritten _ (sheet (g.O.Sink.tape c.args.output.now).wrote
+returns-in_err-print-clause-front g c =
+    on_err _ _ (inl (unwritten _ (sheet (g.O.Sink.tape c.args.output.now).wrote
     c.args.self.now)))

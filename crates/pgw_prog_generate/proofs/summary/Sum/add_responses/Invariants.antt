@@ -4,4 +4,5 @@ use Rattle.pgw_prog_generate.specs.Summary.{AddsRowsToSum, response_rows}
 use Rattle.pgw_prog_generate.proofs.summary.Sum.add_responses.Given as goal
 
 abbrev pub invariant-loop-response : goal.invariant-loop-response
-invariant-loop-response l = AddsRowsToSum (flat_map response_rows (take l.response-index l.responses)) l.fn.self l.self
+invariant-loop-response l =
+    AddsRowsToSum (flat_map response_rows (take l.response-index l.responses)) l.fn.self l.self

@@ -16,7 +16,9 @@ loop-row-preserved c =
       count = c.loop-row.invariant.count;
       held = (
         h.0 ++ row ∷ [],
-        append_assoc h.0 (row ∷ []) c.next.new.self ∙ ap (λ (l : List DataRow). h.0 ++ l) (sym c.in-Some-row.ensures.steps) ∙ h.1,
-        λ before is. subst (Holds256 c.update.new.self) (payload_on before h.0 row) (c.update.ensures (payloads (before ++ h.0)) (h.2 before is)),
+        append_assoc h.0 (row ∷ []) c.next.new.self
+            ∙ ap (λ (l : List DataRow). h.0 ++ l) (sym c.in-Some-row.ensures.steps) ∙ h.1,
+        λ before is. subst (Holds256 c.update.new.self) (payload_on before h.0 row)
+            (c.update.ensures (payloads (before ++ h.0)) (h.2 before is)),
       );
     }

@@ -9,5 +9,6 @@ invariant-loop-row l = record {
   can : (goal.iterator-loop-row).can_next l.row-iterator;
   ends : (goal.iterator-loop-row).is_finite l.row-iterator;
   count : l.self.rows ≡ l.fn.self.rows + length l.rows;
-  held : (done : List DataRow) × (done ++ l.row-iterator ≡ l.rows) × ((before : List DataRow) → IsSum l.fn.self before → Holds256 l.self.hasher (payloads (before ++ done)));
+  held : (done : List DataRow) × (done ++ l.row-iterator ≡ l.rows)
+      × ((before : List DataRow) → IsSum l.fn.self before → Holds256 l.self.hasher (payloads (before ++ done)));
 }

@@ -5,10 +5,24 @@ use Rattle.pgw_proxy.proofs.StandsLaws.{server_forwards, server_stands, server_s
 use Rattle.pgw_proxy.proofs.proxy.Proxy.from_server.Goals as goal
 
 pub returns-then-self-clause-stands : goal.returns-then-self-clause-stands
-returns-then-self-clause-stands c events sent got recorded stands = server_still c.args.self.now c.args.piece.now c.args.to_client.now.items c.args.tape.now.items (Err fault.Stopped) events sent got recorded c.if-self.true stands
+returns-then-self-clause-stands c events sent got recorded stands =
+    server_still c.args.self.now c.args.piece.now c.args.to_client.now.items c.args.tape.now.items
+    (Err fault.Stopped) events sent got recorded c.if-self.true stands
 
 pub returns-clause-stands : goal.returns-clause-stands
 returns-clause-stands c events sent got recorded stands =
-    let new : Proxy = record { context = c.take_piece-answer.new.context; client = c.args.self.now.client; server = c.take_piece-answer.new.waiting; over = c.is_err-self.result } in
-    let on = server_forwards c.args.self.now new c.args.piece.now c.args.to_client.now.items c.take_piece-answer.new.out.items c.args.tape.now.items c.take_piece-answer.new.tape.items c.take_piece-answer.result c.is_err-self.ensures.value refl c.take_piece-answer.ensures in
-    server_stands c.args.self.now new c.args.piece.now c.args.to_client.now.items c.take_piece-answer.new.out.items c.args.tape.now.items c.take_piece-answer.new.tape.items c.take_piece-answer.result events sent got recorded c.if-self.false on stands
+    let new : Proxy =
+    record {
+      context = c.take_piece-answer.new.context;
+      client = c.args.self.now.client;
+      server =
+          c.take_piece-answer.new.waiting;
+      over = c.is_err-self.result;
+    } in
+    let on =
+    server_forwards c.args.self.now new c.args.piece.now c.args.to_client.now.items
+    c.take_piece-answer.new.out.items c.args.tape.now.items c.take_piece-answer.new.tape.items
+    c.take_piece-answer.result c.is_err-self.ensures.value refl c.take_piece-answer.ensures in
+    server_stands c.args.self.now new c.args.piece.now c.args.to_client.now.items
+    c.take_piece-answer.new.out.items c.args.tape.now.items c.take_piece-answer.new.tape.items
+    c.take_piece-answer.result events sent got recorded c.if-self.false on stands

@@ -7,4 +7,9 @@ use Rattle.pgw_query.proofs.data.RowDescriptionMessage.put_body.Goals as goal
 pub overflow_cast-fields : goal.overflow_cast-fields
 overflow_cast-fields c =
     let fields = c.args.self.now.fields in
-    omega (arith, ap length c.as_slice-fields.ensures, not_longer_or 32767 (length fields) (list_any (λ f. has_zero f.name) fields) c.requires)
+    omega (
+      arith,
+      ap length c.as_slice-fields.ensures,
+      not_longer_or 32767 (length fields)
+          (list_any (λ f. has_zero f.name) fields) c.requires,
+    )

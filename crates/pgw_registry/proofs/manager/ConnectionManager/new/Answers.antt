@@ -7,4 +7,5 @@ use Rattle.pgw_registry.proofs.manager.ConnectionManager.new.Goals as goal
 
 pub new-requires-2 : goal.new-requires-2
 new-requires-2 c = let items : c.push.new.self.items ≡ Some nothing ∷ [] = search rules in
-    subst (λ (l : List (Option Book)). KeepsHistory (0 ∷ 0 ∷ []) (map (λ x. math.some x) l) (founder ∷ [])) (sym items) begins
+    subst (λ (l : List (Option Book)). KeepsHistory (0 ∷ 0 ∷ []) (map (λ x. math.some x) l) (founder ∷ []))
+    (sym items) begins

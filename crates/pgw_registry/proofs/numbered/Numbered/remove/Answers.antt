@@ -12,5 +12,6 @@ returns-clause-value g c =
 
 pub returns-clause-after : goal.returns-clause-after
 returns-clause-after g c =
-    removed_entries nat_cmp_total map.nat_cmp-IsAntisymmetric c.self.inside.held.entries c.remove.new.self.entries c.args.number c.remove.ensures.updates.0
+    removed_entries nat_cmp_total map.nat_cmp-IsAntisymmetric c.self.inside.held.entries c.remove.new.self.entries
+    c.args.number c.remove.ensures.updates.0
     ∙ ap (λ m. map.remove m c.args.number) c.self.view_is

@@ -14,5 +14,6 @@ returns c =
     let numbers = c.self.inside.numbers.entries in
     c.find.ensures
     ∙ ap (λ n. at_either firsts numbers n c.args.key.now) fits
-    ∙ sym (map.get-from_entries pair_cmp_total (both_flat firsts numbers) (c.args.pid, c.args.key.now) ∙ at_both firsts numbers c.self.invariant.0 c.self.invariant.1 c.args.pid c.args.key.now)
+    ∙ sym (map.get-from_entries pair_cmp_total (both_flat firsts numbers) (c.args.pid, c.args.key.now)
+    ∙ at_both firsts numbers c.self.invariant.0 c.self.invariant.1 c.args.pid c.args.key.now)
     ∙ ap (λ m. map.get m (c.args.pid, c.args.key.now)) c.self.view_is

@@ -7,6 +7,7 @@ pub invariant_of-self-2 : goal.invariant_of-self-2
 invariant_of-self-2 c = (
   omega arith,
   omega arith,
-  few_written c.self.inside.handles c.insert.new.self (c.self.inside.handles_made + 1) c.self.inside.events _ c.in_ok-insert.ensures.ok c.self.invariant.2 (omega arith) (omega arith),
+  few_written c.self.inside.handles c.insert.new.self (c.self.inside.handles_made + 1) c.self.inside.events _
+      c.in_ok-insert.ensures.ok c.self.invariant.2 (omega arith) (omega arith),
   names_later c.self.inside.pairs c.self.inside.names c.self.inside.handles_made c.self.invariant.3,
 )

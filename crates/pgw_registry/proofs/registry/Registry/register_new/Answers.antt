@@ -10,8 +10,14 @@ use Rattle.pgw_registry.proofs.Names.{names_spare, names_more, name_is, put_back
 use Rattle.pgw_registry.proofs.registry.Registry.register_new.Goals as goal
 
 pub invariant_of-self : goal.invariant_of-self
-invariant_of-self c =
-    (omega arith, omega arith, c.self.invariant.2, subst (λ m. NamesPairs c.self.inside.pairs m c.self.inside.handles_made) (sym c.in_err-insert.ensures.err) c.self.invariant.3)
+invariant_of-self c = (
+  omega arith,
+  omega arith,
+  c.self.invariant.2,
+  subst
+      (λ m. NamesPairs c.self.inside.pairs m c.self.inside.handles_made) (sym c.in_err-insert.ensures.err)
+      c.self.invariant.3,
+)
 
 pub invariant_of-self-in_err-insert-2 : goal.invariant_of-self-in_err-insert-2
 invariant_of-self-in_err-insert-2 c = (
@@ -19,19 +25,25 @@ invariant_of-self-in_err-insert-2 c = (
   omega arith,
   c.self.invariant.2,
   subst (λ m. NamesPairs m c.insert.new.self c.self.inside.handles_made) (sym c.in_err-insert-2.ensures.err)
-      (names_spare c.self.inside.pairs c.self.inside.names c.insert.new.self c.self.inside.handles_made _ c.in_ok-insert.ensures.ok c.self.invariant.3),
+      (names_spare c.self.inside.pairs c.self.inside.names c.insert.new.self c.self.inside.handles_made _
+      c.in_ok-insert.ensures.ok c.self.invariant.3),
 )
 
 pub invariant_of-self-in-Ok : goal.invariant_of-self-in-Ok
 invariant_of-self-in-Ok c =
     let n : ℤ = to_z w32 (of_z w32 c.args.pid) in
     let key : c.in_ok-name.name ≡ c.args.copy.items = c.in_ok-name.ensures ∙ sym c.requires.copied in
-    let spare = names_spare c.self.inside.pairs c.self.inside.names c.insert.new.self c.self.inside.handles_made _ c.in_ok-insert.ensures.ok c.self.invariant.3 in (
+    let spare =
+    names_spare c.self.inside.pairs c.self.inside.names c.insert.new.self c.self.inside.handles_made _
+    c.in_ok-insert.ensures.ok c.self.invariant.3 in (
       omega arith,
       omega arith,
-      few_written c.self.inside.handles c.insert-3.new.self (c.self.inside.handles_made + 1) c.self.inside.events _ c.in-Ok.ensures.ok c.self.invariant.2 (omega arith) (omega arith),
-      names_more c.self.inside.pairs c.insert-2.new.self c.insert.new.self c.self.inside.handles_made n c.args.copy.items c.in_ok-insert-2.ensures.ok
-          (name_is c.self.inside.names c.insert.new.self c.self.inside.handles_made _ c.in_ok-insert.ensures.ok ∙ (λ i. Some (cancel_key_pair n (key i)))) spare,
+      few_written c.self.inside.handles c.insert-3.new.self (c.self.inside.handles_made + 1) c.self.inside.events
+          _ c.in-Ok.ensures.ok c.self.invariant.2 (omega arith) (omega arith),
+      names_more c.self.inside.pairs c.insert-2.new.self c.insert.new.self c.self.inside.handles_made n
+          c.args.copy.items c.in_ok-insert-2.ensures.ok
+          (name_is c.self.inside.names c.insert.new.self c.self.inside.handles_made _ c.in_ok-insert.ensures.ok
+          ∙ (λ i. Some (cancel_key_pair n (key i)))) spare,
     )
 
 pub invariant_of-self-in-Err : goal.invariant_of-self-in-Err
@@ -40,10 +52,14 @@ invariant_of-self-in-Err c =
     let fits : n ≡ c.args.pid = grind (arith, to_z-of_z) in
     let same : c.as_slice.result.now ≡ c.args.copy.items = c.as_slice.ensures ∙ sym c.requires.copied in
     let absent : map.get c.self.inside.pairs (n, c.args.copy.items) ≡ None =
-    ap (map.get c.self.inside.pairs) (λ i. (fits i, c.requires.copied i)) ∙ ap (λ (b : Book). map.get b.pairs (c.args.pid, c.args.key)) c.self.view_is ∙ c.requires.absent in
+    ap (map.get c.self.inside.pairs) (λ i. (fits i, c.requires.copied i))
+    ∙ ap (λ (b : Book). map.get b.pairs (c.args.pid, c.args.key)) c.self.view_is ∙ c.requires.absent in
     let back : c.remove.new.self ≡ c.self.inside.pairs =
-    c.remove.ensures ∙ (λ i. map.remove (c.in_ok-insert-2.ensures.ok i) (n, same i)) ∙ put_back c.self.inside.pairs (n, c.args.copy.items) (c.self.inside.handles_made + 1) absent in
-    let spare = names_spare c.self.inside.pairs c.self.inside.names c.insert.new.self c.self.inside.handles_made _ c.in_ok-insert.ensures.ok c.self.invariant.3 in (
+    c.remove.ensures ∙ (λ i. map.remove (c.in_ok-insert-2.ensures.ok i) (n, same i))
+    ∙ put_back c.self.inside.pairs (n, c.args.copy.items) (c.self.inside.handles_made + 1) absent in
+    let spare =
+    names_spare c.self.inside.pairs c.self.inside.names c.insert.new.self c.self.inside.handles_made _
+    c.in_ok-insert.ensures.ok c.self.invariant.3 in (
       omega arith,
       omega arith,
       subst (λ m. FewHolders m c.self.inside.events) (sym c.in-Err.ensures.err) c.self.invariant.2,
@@ -56,9 +72,11 @@ returns-clause-err c =
     let fits : n ≡ c.args.pid = grind (arith, to_z-of_z) in
     let same : c.as_slice.result.now ≡ c.args.copy.items = c.as_slice.ensures ∙ sym c.requires.copied in
     let absent : map.get c.self.inside.pairs (n, c.args.copy.items) ≡ None =
-    ap (map.get c.self.inside.pairs) (λ i. (fits i, c.requires.copied i)) ∙ ap (λ (b : Book). map.get b.pairs (c.args.pid, c.args.key)) c.self.view_is ∙ c.requires.absent in
+    ap (map.get c.self.inside.pairs) (λ i. (fits i, c.requires.copied i))
+    ∙ ap (λ (b : Book). map.get b.pairs (c.args.pid, c.args.key)) c.self.view_is ∙ c.requires.absent in
     let back : c.remove.new.self ≡ c.self.inside.pairs =
-    c.remove.ensures ∙ (λ i. map.remove (c.in_ok-insert-2.ensures.ok i) (n, same i)) ∙ put_back c.self.inside.pairs (n, c.args.copy.items) (c.self.inside.handles_made + 1) absent in (
+    c.remove.ensures ∙ (λ i. map.remove (c.in_ok-insert-2.ensures.ok i) (n, same i))
+    ∙ put_back c.self.inside.pairs (n, c.args.copy.items) (c.self.inside.handles_made + 1) absent in (
       refl,
       (λ i. record {
         pairs = back i;

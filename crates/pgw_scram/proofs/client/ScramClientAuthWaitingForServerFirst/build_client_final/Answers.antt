@@ -8,5 +8,7 @@ pub returns-in_err-reply : goal.returns-in_err-reply
 returns-in_err-reply c =
     let login = c.args.self.now.login in
     let first = c.args.message.now in
-    passed_on (scram_first_refusal login.nonce first) (reply_to login first) (client_final login first, record { signature = signature login first }) c.in_err-reply.field-0.0 c.from_residual.result
+    passed_on (scram_first_refusal login.nonce first) (reply_to login first)
+    (client_final login first, record { signature = signature login first }) c.in_err-reply.field-0.0
+    c.from_residual.result
     c.in_err-reply.ensures c.from_residual.ensures.1

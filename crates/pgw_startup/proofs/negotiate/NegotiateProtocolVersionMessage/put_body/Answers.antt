@@ -7,4 +7,9 @@ use Rattle.pgw_startup.proofs.negotiate.NegotiateProtocolVersionMessage.put_body
 pub overflow_cast-options : goal.overflow_cast-options
 overflow_cast-options c =
     let options = c.args.self.now.unsupported_options in
-    omega (arith, ap length c.as_slice-options.ensures, not_longer_or 2147483647 (length options) (list_any has_zero options) c.requires)
+    omega (
+      arith,
+      ap length c.as_slice-options.ensures,
+      not_longer_or 2147483647 (length options)
+          (list_any has_zero options) c.requires,
+    )

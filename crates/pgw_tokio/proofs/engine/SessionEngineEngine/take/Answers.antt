@@ -10,4 +10,5 @@ returns-clause-takes c =
     let a = c.turn_after-turn in
     feeds_by c.args.self.now c.in-Some.dialogue t.new.self c.args.piece.now c.args.out.now.items t.new.out.items
     t.result a.result.0 a.result.1 c.in-Some.is t.ensures.takes t.ensures.after t.ensures.starved
-    (ap (λ (p : Turn × Option ClientError). p.0) a.ensures) (ap (λ (p : Turn × Option ClientError). p.1) a.ensures)
+    (ap (λ (p : Turn × Option ClientError). p.0) a.ensures)
+    (ap (λ (p : Turn × Option ClientError). p.1) a.ensures)

@@ -8,7 +8,8 @@ pub returns-clause-met : goal.returns-clause-met
 returns-clause-met g c =
     let p = c.poll_read_piece in
     let is : p.result ≡ Pending = search rules in
-    read_waited g.S.AsyncRead g.S.AsyncWrite g.E.Engine (held_in c.args.self.now) p.new.stream p.new.piece p.result
+    read_waited g.S.AsyncRead g.S.AsyncWrite g.E.Engine (held_in c.args.self.now) p.new.stream p.new.piece
+    p.result
     is p.ensures.bytes
 
 pub returns-in-Ok-eq0-clause-met : goal.returns-in-Ok-eq0-clause-met

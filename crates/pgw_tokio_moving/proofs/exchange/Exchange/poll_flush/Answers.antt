@@ -5,7 +5,8 @@ use Rattle.pgw_tokio_moving.proofs.MovingLaws.{flush_done, flush_failed, flush_w
 use Rattle.pgw_tokio_moving.proofs.exchange.Exchange.poll_flush.Goals as goal
 
 pub returns-then-not-self-clause-polled : goal.returns-then-not-self-clause-polled
-returns-then-not-self-clause-polled g c = staying g.S.AsyncRead g.S.AsyncWrite g.E.Engine (held_in c.args.self.now)
+returns-then-not-self-clause-polled g c =
+    staying g.S.AsyncRead g.S.AsyncWrite g.E.Engine (held_in c.args.self.now)
     _ refl
 
 pub returns-clause-polled : goal.returns-clause-polled

@@ -33,7 +33,8 @@ pub returns-clause-polled : goal.returns-clause-polled
 returns-clause-polled g c =
     let s = c.loop-self.self in
     let empty : s.out.items ≡ [] = no_bytes s.out.items (λ some. search rules) in
-    let went = went_same g.S.AsyncRead g.S.AsyncWrite g.E.Engine (held_in c.args.self.now) s.stream s.engine s.turn
+    let went =
+    went_same g.S.AsyncRead g.S.AsyncWrite g.E.Engine (held_in c.args.self.now) s.stream s.engine s.turn
     s.unflushed s.out.items c.clear.new.self.items (empty ∙ sym c.clear.ensures.items)
     c.loop-self.invariant.went in
     polled_on g.S.AsyncRead g.S.AsyncWrite g.E.Engine (held_in c.args.self.now) _ (held_in c.poll_flush.new.self)

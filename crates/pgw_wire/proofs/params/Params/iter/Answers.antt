@@ -4,4 +4,6 @@ use Rattle.pgw_wire.proofs.ParamLaws.{entries_of}
 use Rattle.pgw_wire.proofs.params.Params.iter.Goals as goal
 
 pub returns : goal.returns
-returns c = c.iter.ensures.rest ∙ sym (entries_of c.self.inside.held.entries c.self.invariant) ∙ ap (λ m. map.entries m) c.self.view_is
+returns c =
+    c.iter.ensures.rest ∙ sym (entries_of c.self.inside.held.entries c.self.invariant)
+    ∙ ap (λ m. map.entries m) c.self.view_is
