@@ -8,3 +8,6 @@
 
 pub mod ask;
 pub mod push;
+
+pub use crate::ask::ask;
+pub use crate::push::over_pieces;

@@ -11,3 +11,6 @@ pub mod equality;
 pub mod laws;
 mod sound;
 mod told;
+
+pub use crate::backend::PgWireBackendMessage;
+pub use crate::client_error::{PgWireClientError, PgWireClientResult, unexpected};

@@ -9,7 +9,7 @@
 pub mod laws;
 pub mod session;
 
-pub use crate::session::run_session;
+pub use crate::session::{CHUNK, chunk_size, fill, run_session};
 pub use pgw_backend::backend::PgWireBackendMessage;
 pub use pgw_backend::client_error::{PgWireClientError, PgWireClientResult};
 pub use pgw_config::address::Address;

@@ -9,3 +9,8 @@ pub mod noted;
 pub mod notes;
 pub mod places;
 pub mod targets;
+
+pub use crate::noted::NotedStartupHandler;
+pub use crate::notes::{Clock, LoginKind, LoginNotes, NoClock, is_final};
+pub use crate::places::{NoSession, Place, connect_first};
+pub use crate::targets::{Fit, look_at, wanted_of};

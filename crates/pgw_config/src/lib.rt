@@ -16,3 +16,7 @@ mod numbers;
 pub mod parse;
 pub mod setters;
 mod settings;
+
+pub use crate::config::{
+    ChannelBinding, Config, LoadBalanceHosts, SslMode, SslNegotiation, TargetSessionAttrs,
+};

@@ -5,3 +5,6 @@
 
 pub mod places;
 pub mod variables;
+
+pub use crate::places::places_of;
+pub use crate::variables::Variables;

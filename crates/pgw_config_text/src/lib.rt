@@ -8,3 +8,6 @@ mod key_value;
 pub mod part;
 pub mod text;
 mod url;
+
+pub use crate::part::{Cut, Fault, Part};
+pub use crate::text::cut;

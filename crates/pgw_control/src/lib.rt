@@ -11,3 +11,8 @@ pub mod laws;
 mod packet;
 pub mod ssl_request;
 pub mod terminate;
+
+pub use crate::cancel::CancelRequest;
+pub use crate::gss_enc_request::GssEncRequest;
+pub use crate::ssl_request::SslRequest;
+pub use crate::terminate::{MESSAGE_TYPE_BYTE_TERMINATE, Terminate};

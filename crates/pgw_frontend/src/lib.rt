@@ -8,3 +8,5 @@ pub mod equality;
 pub mod frontend;
 pub mod laws;
 mod sound;
+
+pub use crate::frontend::{PgWireFrontendMessage, SslNegotiationMetaMessage};

@@ -13,6 +13,7 @@ pub mod responses;
 pub mod simple;
 pub mod startup;
 
+pub use crate::causes::{admitted, misplaced};
 pub use crate::client_info::{ClientInfo, ReadyState, Seen, ServerInformation};
 pub use crate::extended::ExtendedQueryHandler;
 pub use crate::outgoing::Outgoing;

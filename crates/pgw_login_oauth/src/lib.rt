@@ -6,3 +6,6 @@
 
 pub mod data;
 pub mod token;
+
+pub use crate::data::auth_in;
+pub use crate::token::token_in;

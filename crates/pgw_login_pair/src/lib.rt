@@ -17,4 +17,5 @@ mod server_side;
 mod sound;
 
 pub use crate::both::two_party;
+pub use crate::parties::{ClientEnd, PairInput, PairOutcome, ServerEnd};
 pub use pgw_machine::event::Event;

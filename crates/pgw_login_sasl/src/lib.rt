@@ -13,3 +13,14 @@ pub mod scram;
 pub mod stored;
 pub mod turn;
 pub mod validator;
+
+pub use crate::error_text::error_text;
+pub use crate::handler::SASLAuthStartupHandler;
+pub use crate::methods::{
+    Method, OAUTHBEARER_METHOD, SCRAM_SHA_256_METHOD, SCRAM_SHA_256_PLUS_METHOD, unsupported,
+};
+pub use crate::oauth::Oauth;
+pub use crate::scram::{ScramAuth, ScramSource};
+pub use crate::stored::Secrets;
+pub use crate::turn::{Stage, begun, is_finished, is_initial, stage_of, turned};
+pub use crate::validator::{OauthValidator, ValidatorModuleResult};

@@ -7,3 +7,6 @@
 pub mod connection;
 pub mod front;
 pub mod laws;
+
+pub use crate::connection::{ServerCore, ServerPhase};
+pub use crate::front::next_message;

@@ -6,3 +6,5 @@
 
 pub mod event;
 pub mod laws;
+
+pub use crate::event::Event;

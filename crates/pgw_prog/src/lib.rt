@@ -24,3 +24,7 @@ mod silence;
 pub mod start;
 mod told;
 mod transfer;
+
+pub use crate::gen_session::gen_session;
+pub use crate::program::{Stop, run_command_with, run_program, run_program_with};
+pub use crate::start::{run, start, start_with, words_of};

@@ -14,3 +14,11 @@ pub mod said;
 mod told;
 mod values;
 pub mod written;
+
+pub use crate::answer::Answer;
+pub use crate::asking::{AnswerEnd, Halt, ask, ask_all};
+pub use crate::faults::told_of_error;
+pub use crate::messages::Messages;
+pub use crate::page::{Page, Stop};
+pub use crate::said::{Said, Turn, said_of};
+pub use crate::written::write_whole;

@@ -9,3 +9,7 @@ pub mod check;
 pub mod laws;
 pub mod report;
 pub mod words;
+
+pub use crate::check::run_check;
+pub use crate::report::{CheckReport, put_report};
+pub use crate::words::{login_name, server_text, truth_word, version_word};

@@ -8,3 +8,6 @@ pub mod equality;
 pub mod laws;
 pub mod stream;
 pub mod summary;
+
+pub use crate::stream::stream;
+pub use crate::summary::{GenSummary, TooManyRows, summary_of};

@@ -14,3 +14,13 @@ pub mod printer;
 pub mod sample;
 pub mod shown;
 pub mod table_lines;
+
+pub use crate::columns::{Column, ColumnKind};
+pub use crate::csv_lines::put_csv_line;
+pub use crate::json_lines::put_json_line;
+pub use crate::layout::{Row, lay_out, names};
+pub use crate::pieces::{put, put_times};
+pub use crate::printer::{RowFormat, RowPrinter};
+pub use crate::sample::{SAMPLE, Sample};
+pub use crate::shown::{plain, shown};
+pub use crate::table_lines::{MOST_WIDTH, Side, TableColumn, put_rule, put_table_line, widen};

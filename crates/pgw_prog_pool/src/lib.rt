@@ -8,3 +8,5 @@
 mod desk;
 pub mod run;
 mod start;
+
+pub use crate::run::{PoolOutcome, run_pool};

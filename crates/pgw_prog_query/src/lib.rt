@@ -8,3 +8,6 @@
 
 pub mod query;
 pub mod talking;
+
+pub use crate::query::run_query;
+pub use crate::talking::Talking;

@@ -23,3 +23,15 @@ pub mod relay_script;
 mod request_line;
 pub mod script;
 pub mod server_bytes;
+
+pub use crate::expected::{
+    expected_at, expected_in_pair_at, expected_in_pool_at, expected_in_relay_at,
+};
+pub use crate::grammar::grammar_is_read;
+pub use crate::lines::{Draft, ScriptFault, read_whole};
+pub use crate::number::read_number;
+pub use crate::pair_script::{PairDraft, PairPlace, PairScript, pair_may_follow, parse_pair};
+pub use crate::pool_script::{PoolDraft, PoolPlace, PoolScript, parse_pool, pool_may_follow};
+pub use crate::relay_script::{RelayDraft, RelayPlace, RelayScript, parse_relay, relay_may_follow};
+pub use crate::script::{Place, Script, ScriptDraft, may_follow, parse};
+pub use crate::server_bytes::ServerBytes;

@@ -6,3 +6,7 @@
 pub mod help;
 pub mod options;
 pub mod query;
+
+pub use crate::help::help_of;
+pub use crate::options::{Flag, Options, Parted, flag_of, part};
+pub use crate::query::{CheckWords, QueryWords, check_words, query_words};

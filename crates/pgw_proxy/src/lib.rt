@@ -19,3 +19,12 @@ pub mod recorded;
 pub mod run;
 mod taking;
 mod tape;
+
+pub use crate::context::{
+    Context, behind_client, behind_server, client_context, is_accepted, is_due, past_requests,
+};
+pub use crate::fault::{ProxyFault, RecordFault};
+pub use crate::proxy::Proxy;
+pub use crate::reading::read_record;
+pub use crate::recorded::{Recorded, Side};
+pub use crate::run::{ProxyRun, run_proxy};

@@ -20,3 +20,10 @@ pub mod registry;
 mod share;
 mod sight;
 mod turn;
+
+pub use crate::call::{Call, Entry, Handle, Phase, Reply};
+pub use crate::error::{LookError, PidError, RegistryError};
+pub use crate::generator::{MOST, PidSeat, PidSecretKeyGenerator, RandomPidSecretKeyGenerator};
+pub use crate::key::key_for;
+pub use crate::manager::{CancelToken, ConnectionGuard, ConnectionHandle, ConnectionManager, Pass};
+pub use crate::registry::Registry;

@@ -13,3 +13,7 @@ mod password_line;
 pub mod secret;
 pub mod server;
 mod text;
+
+pub use crate::password_file::{Entry, Field, PasswordFile, is_open_to_others};
+pub use crate::secret::{SecretFault, StoredSecret};
+pub use crate::server::{StoredScramAuth, StoredScramWaiting};

@@ -13,3 +13,12 @@ pub mod standing;
 pub mod table_laws;
 pub mod tally;
 pub mod types;
+
+pub use crate::notes::Notes;
+pub use crate::stage::{Kind, Next, Role, Stage};
+pub use crate::standing::Standing;
+pub use crate::tally::{Opened, Tally};
+pub use crate::types::{
+    Answer, DescribeResponse, ExecuteResult, PrepareResponse, Request, Response, SessionReport,
+    Target,
+};

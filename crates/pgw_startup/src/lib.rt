@@ -15,3 +15,16 @@ pub mod password;
 pub mod response;
 pub mod sasl;
 pub mod startup;
+
+pub use crate::authentication::{Authentication, MESSAGE_TYPE_BYTE_AUTHENTICATION};
+pub use crate::backend_key_data::{BackendKeyData, MESSAGE_TYPE_BYTE_BACKEND_KEY_DATA};
+pub use crate::negotiate::{
+    MESSAGE_TYPE_BYTE_NEGOTIATE_PROTOCOL_VERSION, NegotiateProtocolVersion, negotiated_version,
+};
+pub use crate::parameter_status::{MESSAGE_TYPE_BYTE_PARAMETER_STATUS, ParameterStatus};
+pub use crate::password::{
+    MESSAGE_TYPE_BYTE_PASSWORD_MESSAGE_FAMILY, Password, PasswordMessageFamily,
+};
+pub use crate::response::{GssEncResponse, SslResponse};
+pub use crate::sasl::{SASLInitialResponse, SASLResponse, read_initial_response, read_response};
+pub use crate::startup::Startup;

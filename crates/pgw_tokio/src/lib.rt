@@ -22,9 +22,11 @@ pub mod sending;
 pub mod sockets;
 
 pub use crate::asking::{Answered, Asking};
+pub use crate::calling::ClientEngine;
 pub use crate::client::AsyncClient;
 pub use crate::closing::cancel;
+pub use crate::engine::SessionEngine;
 pub use crate::holding::{Ended, SessionFuture, session};
 pub use crate::login::{LoggingIn, NotLoggedIn, log_in};
-pub use crate::sending::{Sending, Sent};
+pub use crate::sending::{Sending, Sent, Silent};
 pub use crate::sockets::{Connecting, connect};

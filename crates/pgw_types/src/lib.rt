@@ -18,3 +18,18 @@ pub mod octets;
 pub mod scram_error;
 pub mod text;
 mod told;
+
+pub use crate::address::{Address, Host, HostAddr};
+pub use crate::boxed::Boxed;
+pub use crate::config_error::{ConfigError, ConfigResult, RefusedKey};
+pub use crate::context::{DecodeContext, ProtocolVersion};
+pub use crate::error::{
+    ApiFault, OauthFault, OauthRefusal, PgWireError, PgWireResult, ScramMessageFault,
+};
+pub use crate::error_info::ErrorInfo;
+pub use crate::listed::{Duplicate, Listed};
+pub use crate::marks::{behind_word, cut_at, pieces_at};
+pub use crate::memory::OutOfMemory;
+pub use crate::octets::Octets;
+pub use crate::scram_error::{ScramClientError, ScramClientResult, ScramFault};
+pub use crate::text::Text;
