@@ -15,23 +15,24 @@ use Rattle.pgw_ext.specs.Rows.{parse_complete_of, bind_complete_of, close_comple
 use Rattle.pgw_copy.specs.Rows.{copy_data_of, copy_done_of, copy_fail_of, copy_in_response_of, copy_out_response_of, copy_both_response_of, formats, is_miscounted}
 use Rattle.pgw_backend.specs.declared.backend.PgWireBackendMessage.{PgWireBackendMessage}
 use Rattle.pgw_backend.specs.declared.backend.PgWireBackendMessage.TheVariants as backend
+use Rattle.pgw_wire.specs.declared.limits.TheConstants.{LARGE_LIMIT, LONG_LIMIT, SMALL_BACKEND_LIMIT, SMALL_LIMIT}
 
 -- COPY; another byte is no message
 abbrev pub copy_by : ℕ → DecodeContext → List ℕ
     → Result (Option (PgWireBackendMessage × List ℕ)) PgWireError
 copy_by byte ctx bytes =
     if byte == 100 then as_one_of backend.CopyData
-    (wire_front (Typed 100) 1073741822 (copy_data_of ctx) bytes)
+    (wire_front (Typed 100) LARGE_LIMIT (copy_data_of ctx) bytes)
     else (if byte == 99 then as_one_of backend.CopyDone
-    (wire_front (Typed 99) 10000 (copy_done_of ctx) bytes)
+    (wire_front (Typed 99) SMALL_LIMIT (copy_done_of ctx) bytes)
     else (if byte == 102 then as_one_of backend.CopyFail
-    (wire_front (Typed 102) 10000 (copy_fail_of ctx) bytes)
+    (wire_front (Typed 102) SMALL_LIMIT (copy_fail_of ctx) bytes)
     else (if byte == 71 then as_one_of backend.CopyInResponse
-    (wire_front (Typed 71) 30000 (copy_in_response_of ctx) bytes)
+    (wire_front (Typed 71) SMALL_BACKEND_LIMIT (copy_in_response_of ctx) bytes)
     else (if byte == 72 then as_one_of backend.CopyOutResponse
-    (wire_front (Typed 72) 30000 (copy_out_response_of ctx) bytes)
+    (wire_front (Typed 72) SMALL_BACKEND_LIMIT (copy_out_response_of ctx) bytes)
     else (if byte == 87 then as_one_of backend.CopyBothResponse
-    (wire_front (Typed 87) 30000 (copy_both_response_of ctx) bytes)
+    (wire_front (Typed 87) SMALL_BACKEND_LIMIT (copy_both_response_of ctx) bytes)
     else (Err (InvalidMessageType byte)))))))
 
 -- the extended query, and COPY
@@ -39,17 +40,17 @@ abbrev pub extended_by : ℕ → DecodeContext → List ℕ
     → Result (Option (PgWireBackendMessage × List ℕ)) PgWireError
 extended_by byte ctx bytes =
     if byte == 49 then as_one_of backend.ParseComplete
-    (wire_front (Typed 49) 30000 (parse_complete_of ctx) bytes)
+    (wire_front (Typed 49) SMALL_BACKEND_LIMIT (parse_complete_of ctx) bytes)
     else (if byte == 50 then as_one_of backend.BindComplete
-    (wire_front (Typed 50) 30000 (bind_complete_of ctx) bytes)
+    (wire_front (Typed 50) SMALL_BACKEND_LIMIT (bind_complete_of ctx) bytes)
     else (if byte == 51 then as_one_of backend.CloseComplete
-    (wire_front (Typed 51) 30000 (close_complete_of ctx) bytes)
+    (wire_front (Typed 51) SMALL_BACKEND_LIMIT (close_complete_of ctx) bytes)
     else (if byte == 115 then as_one_of backend.PortalSuspended
-    (wire_front (Typed 115) 30000 (portal_suspended_of ctx) bytes)
+    (wire_front (Typed 115) SMALL_BACKEND_LIMIT (portal_suspended_of ctx) bytes)
     else (if byte == 110 then as_one_of backend.NoData
-    (wire_front (Typed 110) 30000 (no_data_of ctx) bytes)
+    (wire_front (Typed 110) SMALL_BACKEND_LIMIT (no_data_of ctx) bytes)
     else (if byte == 116 then as_one_of backend.ParameterDescription
-    (wire_front (Typed 116) 2147483647 (parameter_description_of ctx) bytes)
+    (wire_front (Typed 116) LONG_LIMIT (parameter_description_of ctx) bytes)
     else (copy_by byte ctx bytes))))))
 
 -- queries, and those
@@ -57,21 +58,21 @@ abbrev pub query_by : ℕ → DecodeContext → List ℕ
     → Result (Option (PgWireBackendMessage × List ℕ)) PgWireError
 query_by byte ctx bytes =
     if byte == 67 then as_one_of backend.CommandComplete
-    (wire_front (Typed 67) 30000 (command_complete_of ctx) bytes)
+    (wire_front (Typed 67) SMALL_BACKEND_LIMIT (command_complete_of ctx) bytes)
     else (if byte == 73 then as_one_of backend.EmptyQueryResponse
-    (wire_front (Typed 73) 30000 (empty_query_response_of ctx) bytes)
+    (wire_front (Typed 73) SMALL_BACKEND_LIMIT (empty_query_response_of ctx) bytes)
     else (if byte == 90 then as_one_of backend.ReadyForQuery
-    (wire_front (Typed 90) 30000 (ready_for_query_of ctx) bytes)
+    (wire_front (Typed 90) SMALL_BACKEND_LIMIT (ready_for_query_of ctx) bytes)
     else (if byte == 69 then as_one_of backend.ErrorResponse
-    (wire_front (Typed 69) 2147483647 (error_response_of ctx) bytes)
+    (wire_front (Typed 69) LONG_LIMIT (error_response_of ctx) bytes)
     else (if byte == 78 then as_one_of backend.NoticeResponse
-    (wire_front (Typed 78) 2147483647 (notice_response_of ctx) bytes)
+    (wire_front (Typed 78) LONG_LIMIT (notice_response_of ctx) bytes)
     else (if byte == 65 then as_one_of backend.NotificationResponse
-    (wire_front (Typed 65) 2147483647 (notification_response_of ctx) bytes)
+    (wire_front (Typed 65) LONG_LIMIT (notification_response_of ctx) bytes)
     else (if byte == 84 then as_one_of backend.RowDescription
-    (wire_front (Typed 84) 2147483647 (row_description_of ctx) bytes)
+    (wire_front (Typed 84) LONG_LIMIT (row_description_of ctx) bytes)
     else (if byte == 68 then as_one_of backend.DataRow
-    (wire_front (Typed 68) 2147483647 (data_row_of ctx) bytes)
+    (wire_front (Typed 68) LONG_LIMIT (data_row_of ctx) bytes)
     else (extended_by byte ctx bytes))))))))
 
 -- by the type byte: the login, and those
@@ -79,13 +80,13 @@ abbrev pub backend_by : ℕ → DecodeContext → List ℕ
     → Result (Option (PgWireBackendMessage × List ℕ)) PgWireError
 backend_by byte ctx bytes =
     if byte == 82 then as_one_of backend.Authentication
-    (wire_front (Typed 82) 30000 (authentication_of ctx) bytes)
+    (wire_front (Typed 82) SMALL_BACKEND_LIMIT (authentication_of ctx) bytes)
     else (if byte == 83 then as_one_of backend.ParameterStatus
-    (wire_front (Typed 83) 30000 (parameter_status_of ctx) bytes)
+    (wire_front (Typed 83) SMALL_BACKEND_LIMIT (parameter_status_of ctx) bytes)
     else (if byte == 75 then as_one_of backend.BackendKeyData
-    (wire_front (Typed 75) 30000 (backend_key_data_of ctx) bytes)
+    (wire_front (Typed 75) SMALL_BACKEND_LIMIT (backend_key_data_of ctx) bytes)
     else (if byte == 118 then as_one_of backend.NegotiateProtocolVersion
-    (wire_front (Typed 118) 30000 (negotiate_of ctx) bytes)
+    (wire_front (Typed 118) SMALL_BACKEND_LIMIT (negotiate_of ctx) bytes)
     else (query_by byte ctx bytes))))
 
 -- two bytes are looked for before the type byte is
@@ -100,56 +101,56 @@ unfoldable pub backend_front : DecodeContext → List ℕ
     → Result (Option (PgWireBackendMessage × List ℕ)) PgWireError
 backend_front ctx bytes =
     if ctx.awaiting_backend_ssl_response then as_one_of backend.SslResponse
-    (wire_front OneByte 10000 (ssl_response_of ctx) bytes)
+    (wire_front OneByte SMALL_LIMIT (ssl_response_of ctx) bytes)
     else (if ctx.awaiting_backend_gss_response then as_one_of backend.GssEncResponse
-    (wire_front OneByte 10000 (gss_enc_response_of ctx) bytes)
+    (wire_front OneByte SMALL_LIMIT (gss_enc_response_of ctx) bytes)
     else backend_typed_front ctx bytes)
 
 -- the one spelling that is written of a message, or why there is none
 unfoldable pub backend_encoding : PgWireBackendMessage → Result (List ℕ) PgWireError
-backend_encoding (backend.SslResponse m) = encoded OneByte 10000 None (ssl_byte m ∷ [])
-backend_encoding (backend.GssEncResponse m) = encoded OneByte 10000 None (gss_byte m ∷ [])
+backend_encoding (backend.SslResponse m) = encoded OneByte SMALL_LIMIT None (ssl_byte m ∷ [])
+backend_encoding (backend.GssEncResponse m) = encoded OneByte SMALL_LIMIT None (gss_byte m ∷ [])
 backend_encoding (backend.Authentication m) =
-    encoded (Typed 82) 30000 (authentication_fault m) (authentication m)
+    encoded (Typed 82) SMALL_BACKEND_LIMIT (authentication_fault m) (authentication m)
 backend_encoding (backend.ParameterStatus m) =
-    encoded (Typed 83) 30000 (parameter_status_fault m) (parameter_status m)
+    encoded (Typed 83) SMALL_BACKEND_LIMIT (parameter_status_fault m) (parameter_status m)
 backend_encoding (backend.BackendKeyData m) =
-    encoded (Typed 75) 30000 (key_fault m.secret_key) (backend_key_data m)
+    encoded (Typed 75) SMALL_BACKEND_LIMIT (key_fault m.secret_key) (backend_key_data m)
 backend_encoding (backend.NegotiateProtocolVersion m) =
     encoded (Typed 118) 30000 (refused_if (is_options_refused m.unsupported_options))
     (negotiate m)
-backend_encoding (backend.ParseComplete m) = encoded (Typed 49) 30000 None []
-backend_encoding (backend.BindComplete m) = encoded (Typed 50) 30000 None []
-backend_encoding (backend.CloseComplete m) = encoded (Typed 51) 30000 None []
-backend_encoding (backend.PortalSuspended m) = encoded (Typed 115) 30000 None []
-backend_encoding (backend.EmptyQueryResponse m) = encoded (Typed 73) 30000 None []
-backend_encoding (backend.NoData m) = encoded (Typed 110) 30000 None []
+backend_encoding (backend.ParseComplete m) = encoded (Typed 49) SMALL_BACKEND_LIMIT None []
+backend_encoding (backend.BindComplete m) = encoded (Typed 50) SMALL_BACKEND_LIMIT None []
+backend_encoding (backend.CloseComplete m) = encoded (Typed 51) SMALL_BACKEND_LIMIT None []
+backend_encoding (backend.PortalSuspended m) = encoded (Typed 115) SMALL_BACKEND_LIMIT None []
+backend_encoding (backend.EmptyQueryResponse m) = encoded (Typed 73) SMALL_BACKEND_LIMIT None []
+backend_encoding (backend.NoData m) = encoded (Typed 110) SMALL_BACKEND_LIMIT None []
 backend_encoding (backend.CommandComplete m) =
-    encoded (Typed 67) 30000 (refused_if (has_zero m.tag)) (text m.tag)
+    encoded (Typed 67) SMALL_BACKEND_LIMIT (refused_if (has_zero m.tag)) (text m.tag)
 backend_encoding (backend.ReadyForQuery m) =
-    encoded (Typed 90) 30000 None (status_byte m.status ∷ [])
+    encoded (Typed 90) SMALL_BACKEND_LIMIT None (status_byte m.status ∷ [])
 backend_encoding (backend.ErrorResponse m) =
-    encoded (Typed 69) 2147483647 (codes_fault m.fields) (codes m.fields)
+    encoded (Typed 69) LONG_LIMIT (codes_fault m.fields) (codes m.fields)
 backend_encoding (backend.NoticeResponse m) =
-    encoded (Typed 78) 2147483647 (codes_fault m.fields) (codes m.fields)
+    encoded (Typed 78) LONG_LIMIT (codes_fault m.fields) (codes m.fields)
 backend_encoding (backend.NotificationResponse m) =
-    encoded (Typed 65) 2147483647 (refused_if (is_notification_refused m))
+    encoded (Typed 65) LONG_LIMIT (refused_if (is_notification_refused m))
     (notification_response m)
 backend_encoding (backend.ParameterDescription m) =
-    encoded (Typed 116) 2147483647 (refused_if (is_too_long m.types)) (counted16 u32 m.types)
+    encoded (Typed 116) LONG_LIMIT (refused_if (is_too_long m.types)) (counted16 u32 m.types)
 backend_encoding (backend.RowDescription m) =
-    encoded (Typed 84) 2147483647 (refused_if (is_refused m.fields)) (row_description m)
-backend_encoding (backend.DataRow m) = encoded (Typed 68) 2147483647 None (data_row m)
-backend_encoding (backend.CopyData m) = encoded (Typed 100) 1073741822 None m.payload
-backend_encoding (backend.CopyDone m) = encoded (Typed 99) 10000 None []
+    encoded (Typed 84) LONG_LIMIT (refused_if (is_refused m.fields)) (row_description m)
+backend_encoding (backend.DataRow m) = encoded (Typed 68) LONG_LIMIT None (data_row m)
+backend_encoding (backend.CopyData m) = encoded (Typed 100) LARGE_LIMIT None m.payload
+backend_encoding (backend.CopyDone m) = encoded (Typed 99) SMALL_LIMIT None []
 backend_encoding (backend.CopyFail m) =
-    encoded (Typed 102) 10000 (refused_if (has_zero m.message)) (text m.message)
+    encoded (Typed 102) SMALL_LIMIT (refused_if (has_zero m.message)) (text m.message)
 backend_encoding (backend.CopyInResponse m) =
-    encoded (Typed 71) 30000 (refused_if (is_miscounted m.columns m.column_formats))
+    encoded (Typed 71) SMALL_BACKEND_LIMIT (refused_if (is_miscounted m.columns m.column_formats))
     (formats m.format m.columns m.column_formats)
 backend_encoding (backend.CopyOutResponse m) =
-    encoded (Typed 72) 30000 (refused_if (is_miscounted m.columns m.column_formats))
+    encoded (Typed 72) SMALL_BACKEND_LIMIT (refused_if (is_miscounted m.columns m.column_formats))
     (formats m.format m.columns m.column_formats)
 backend_encoding (backend.CopyBothResponse m) =
-    encoded (Typed 87) 30000 (refused_if (is_miscounted m.columns m.column_formats))
+    encoded (Typed 87) SMALL_BACKEND_LIMIT (refused_if (is_miscounted m.columns m.column_formats))
     (formats m.format m.columns m.column_formats)

@@ -11,6 +11,7 @@ use Rattle.pgw_startup.specs.Response.{SpellsSslResponse, SpellsGssEncResponse}
 use Rattle.pgw_query.specs.Rows.{SpellsCommandComplete, SpellsReadyForQuery, SpellsErrorResponse, SpellsNoticeResponse, SpellsNotificationResponse, SpellsParameterDescription, SpellsRowDescription, SpellsDataRow}
 use Rattle.pgw_copy.specs.Rows.{SpellsCopyData, SpellsCopyDone, SpellsCopyFail, SpellsCopyInResponse, SpellsCopyOutResponse, SpellsCopyBothResponse}
 use Rattle.pgw_backend.specs.Backend.{backend_front}
+use Rattle.pgw_wire.specs.declared.limits.TheConstants.{LARGE_LIMIT, LONG_LIMIT, SMALL_BACKEND_LIMIT, SMALL_LIMIT}
 
 -- more bytes are needed, or a refusal, or a message with its length
 pub data BackendFront : Type 0 where
@@ -41,32 +42,41 @@ front version bytes = front_of bytes (backend_front (typed_phase version) bytes)
 abbrev pub Spelled : ProtocolVersion → PgWireBackendMessage → List ℕ → Type 0
 Spelled version (backend.SslResponse m) = SpellsSslResponse m
 Spelled version (backend.GssEncResponse m) = SpellsGssEncResponse m
-Spelled version (backend.Authentication m) = SpellsTyped 82 30000 SpellsAuthentication m
-Spelled version (backend.ParameterStatus m) = SpellsTyped 83 30000 SpellsParameterStatus m
-Spelled version (backend.BackendKeyData m) = SpellsTyped 75 30000 (SpellsBackendKeyData version) m
-Spelled version (backend.NegotiateProtocolVersion m) = SpellsTyped 118 30000 SpellsNegotiate m
-Spelled version (backend.ParseComplete m) = SpellsTyped 49 30000 NoBody m
-Spelled version (backend.BindComplete m) = SpellsTyped 50 30000 NoBody m
-Spelled version (backend.CloseComplete m) = SpellsTyped 51 30000 NoBody m
-Spelled version (backend.PortalSuspended m) = SpellsTyped 115 30000 NoBody m
-Spelled version (backend.EmptyQueryResponse m) = SpellsTyped 73 30000 NoBody m
-Spelled version (backend.NoData m) = SpellsTyped 110 30000 NoBody m
-Spelled version (backend.CommandComplete m) = SpellsTyped 67 30000 SpellsCommandComplete m
-Spelled version (backend.ReadyForQuery m) = SpellsTyped 90 30000 SpellsReadyForQuery m
-Spelled version (backend.ErrorResponse m) = SpellsTyped 69 2147483647 SpellsErrorResponse m
-Spelled version (backend.NoticeResponse m) = SpellsTyped 78 2147483647 SpellsNoticeResponse m
+Spelled version (backend.Authentication m) =
+    SpellsTyped 82 SMALL_BACKEND_LIMIT SpellsAuthentication m
+Spelled version (backend.ParameterStatus m) =
+    SpellsTyped 83 SMALL_BACKEND_LIMIT SpellsParameterStatus m
+Spelled version (backend.BackendKeyData m) =
+    SpellsTyped 75 SMALL_BACKEND_LIMIT (SpellsBackendKeyData version) m
+Spelled version (backend.NegotiateProtocolVersion m) =
+    SpellsTyped 118 SMALL_BACKEND_LIMIT SpellsNegotiate m
+Spelled version (backend.ParseComplete m) = SpellsTyped 49 SMALL_BACKEND_LIMIT NoBody m
+Spelled version (backend.BindComplete m) = SpellsTyped 50 SMALL_BACKEND_LIMIT NoBody m
+Spelled version (backend.CloseComplete m) = SpellsTyped 51 SMALL_BACKEND_LIMIT NoBody m
+Spelled version (backend.PortalSuspended m) = SpellsTyped 115 SMALL_BACKEND_LIMIT NoBody m
+Spelled version (backend.EmptyQueryResponse m) = SpellsTyped 73 SMALL_BACKEND_LIMIT NoBody m
+Spelled version (backend.NoData m) = SpellsTyped 110 SMALL_BACKEND_LIMIT NoBody m
+Spelled version (backend.CommandComplete m) =
+    SpellsTyped 67 SMALL_BACKEND_LIMIT SpellsCommandComplete m
+Spelled version (backend.ReadyForQuery m) =
+    SpellsTyped 90 SMALL_BACKEND_LIMIT SpellsReadyForQuery m
+Spelled version (backend.ErrorResponse m) = SpellsTyped 69 LONG_LIMIT SpellsErrorResponse m
+Spelled version (backend.NoticeResponse m) = SpellsTyped 78 LONG_LIMIT SpellsNoticeResponse m
 Spelled version (backend.NotificationResponse m) =
-    SpellsTyped 65 2147483647 SpellsNotificationResponse m
+    SpellsTyped 65 LONG_LIMIT SpellsNotificationResponse m
 Spelled version (backend.ParameterDescription m) =
-    SpellsTyped 116 2147483647 SpellsParameterDescription m
-Spelled version (backend.RowDescription m) = SpellsTyped 84 2147483647 SpellsRowDescription m
-Spelled version (backend.DataRow m) = SpellsTyped 68 2147483647 SpellsDataRow m
-Spelled version (backend.CopyData m) = SpellsTyped 100 1073741822 SpellsCopyData m
-Spelled version (backend.CopyDone m) = SpellsTyped 99 10000 SpellsCopyDone m
-Spelled version (backend.CopyFail m) = SpellsTyped 102 10000 SpellsCopyFail m
-Spelled version (backend.CopyInResponse m) = SpellsTyped 71 30000 SpellsCopyInResponse m
-Spelled version (backend.CopyOutResponse m) = SpellsTyped 72 30000 SpellsCopyOutResponse m
-Spelled version (backend.CopyBothResponse m) = SpellsTyped 87 30000 SpellsCopyBothResponse m
+    SpellsTyped 116 LONG_LIMIT SpellsParameterDescription m
+Spelled version (backend.RowDescription m) = SpellsTyped 84 LONG_LIMIT SpellsRowDescription m
+Spelled version (backend.DataRow m) = SpellsTyped 68 LONG_LIMIT SpellsDataRow m
+Spelled version (backend.CopyData m) = SpellsTyped 100 LARGE_LIMIT SpellsCopyData m
+Spelled version (backend.CopyDone m) = SpellsTyped 99 SMALL_LIMIT SpellsCopyDone m
+Spelled version (backend.CopyFail m) = SpellsTyped 102 SMALL_LIMIT SpellsCopyFail m
+Spelled version (backend.CopyInResponse m) =
+    SpellsTyped 71 SMALL_BACKEND_LIMIT SpellsCopyInResponse m
+Spelled version (backend.CopyOutResponse m) =
+    SpellsTyped 72 SMALL_BACKEND_LIMIT SpellsCopyOutResponse m
+Spelled version (backend.CopyBothResponse m) =
+    SpellsTyped 87 SMALL_BACKEND_LIMIT SpellsCopyBothResponse m
 
 -- the phase in which the message comes
 abbrev pub AwaitsBackend : DecodeContext → PgWireBackendMessage → Type 0

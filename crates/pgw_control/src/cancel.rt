@@ -3,6 +3,7 @@ ghost use Rattle.std.specs.Prelude.{◌≡◌, ◌++◌};
 ghost use Rattle.pgw_wire.specs.declared.framing.Framing.TheVariants.{Opening};
 ghost use Rattle.pgw_wire.specs.Keys.{key_fault};
 ghost use Rattle.pgw_control.specs.Openings.{has_code, cancel_request_of, cancel_request};
+ghost use Rattle.pgw_wire.specs.declared.limits.TheConstants.{SMALL_LIMIT};
 
 use crate::packet::has_code_at_front;
 use pgw_types::context::DecodeContext;
@@ -11,6 +12,7 @@ use pgw_types::listed::Duplicate;
 use pgw_types::memory::OutOfMemory;
 use pgw_types::octets::Octets;
 use pgw_wire::framing::Framing;
+use pgw_wire::limits::SMALL_LIMIT;
 use pgw_wire::message::Message;
 use pgw_wire::reader::FieldReader;
 use pgw_wire::secret_key::SecretKey;
@@ -45,7 +47,7 @@ impl CancelRequest {
 impl Message for CancelRequest {
     ghost row_framing = { Opening 80877102 };
 
-    ghost limit = { 10000 };
+    ghost limit = { SMALL_LIMIT };
 
     ghost reading = { cancel_request_of };
 
@@ -58,7 +60,7 @@ impl Message for CancelRequest {
     }
 
     fn max_message_length() -> usize {
-        10000
+        SMALL_LIMIT
     }
 
     #[tactic(auto, unfolding(pgw_wire::specs::Writing::i32, pgw_wire::specs::Writing::u32))]

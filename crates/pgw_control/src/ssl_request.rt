@@ -3,6 +3,7 @@ ghost use Rattle.std.specs.Prelude.{◌≡◌, None};
 ghost use Rattle.pgw_wire.specs.declared.framing.Framing.TheVariants.{Code};
 ghost use Rattle.pgw_wire.specs.Writing.{u32 as u32_bytes};
 ghost use Rattle.pgw_control.specs.Openings.{has_code, ssl_request_of};
+ghost use Rattle.pgw_wire.specs.declared.limits.TheConstants.{SMALL_LIMIT};
 
 use crate::packet::has_code_at_front;
 use pgw_types::context::DecodeContext;
@@ -11,6 +12,7 @@ use pgw_types::listed::Duplicate;
 use pgw_types::memory::OutOfMemory;
 use pgw_types::octets::Octets;
 use pgw_wire::framing::Framing;
+use pgw_wire::limits::SMALL_LIMIT;
 use pgw_wire::message::Message;
 use pgw_wire::reader::FieldReader;
 use pgw_wire::writer::{Writer, put_u32};
@@ -44,7 +46,7 @@ impl SslRequest {
 impl Message for SslRequest {
     ghost row_framing = { Code };
 
-    ghost limit = { 10000 };
+    ghost limit = { SMALL_LIMIT };
 
     ghost reading = { ssl_request_of };
 
@@ -57,7 +59,7 @@ impl Message for SslRequest {
     }
 
     fn max_message_length() -> usize {
-        10000
+        SMALL_LIMIT
     }
 
     #[tactic(auto, unfolding(pgw_wire::specs::Writing::u32))]

@@ -2,6 +2,7 @@
 ghost use Rattle.std.specs.Prelude.{◌≡◌, [], None};
 ghost use Rattle.pgw_wire.specs.declared.framing.Framing.TheVariants.{Typed};
 ghost use Rattle.pgw_control.specs.Terminate.{terminate_of};
+ghost use Rattle.pgw_wire.specs.declared.limits.TheConstants.{SMALL_LIMIT};
 
 use pgw_types::context::DecodeContext;
 use pgw_types::error::{PgWireError, PgWireResult};
@@ -9,6 +10,7 @@ use pgw_types::listed::Duplicate;
 use pgw_types::memory::OutOfMemory;
 use pgw_types::octets::Octets;
 use pgw_wire::framing::Framing;
+use pgw_wire::limits::SMALL_LIMIT;
 use pgw_wire::message::Message;
 use pgw_wire::reader::FieldReader;
 use pgw_wire::writer::Writer;
@@ -31,7 +33,7 @@ impl Terminate {
 impl Message for Terminate {
     ghost row_framing = { Typed 88 };
 
-    ghost limit = { 10000 };
+    ghost limit = { SMALL_LIMIT };
 
     ghost reading = { terminate_of };
 
@@ -44,7 +46,7 @@ impl Message for Terminate {
     }
 
     fn max_message_length() -> usize {
-        10000
+        SMALL_LIMIT
     }
 
     fn message_length(&self) -> usize {

@@ -3,6 +3,7 @@ ghost use Rattle.std.specs.Prelude.{◌≡◌, [], None};
 ghost use Rattle.pgw_wire.specs.declared.framing.Framing.TheVariants.{Typed};
 ghost use Rattle.pgw_wire.specs.Writing.{text, has_zero as holds_zero, refused_if};
 ghost use Rattle.pgw_copy.specs.Rows.{copy_data_of, copy_done_of, copy_fail_of};
+ghost use Rattle.pgw_wire.specs.declared.limits.TheConstants.{LARGE_LIMIT, SMALL_LIMIT};
 
 use pgw_types::context::DecodeContext;
 use pgw_types::error::{PgWireError, PgWireResult};
@@ -11,6 +12,7 @@ use pgw_types::memory::OutOfMemory;
 use pgw_types::octets::Octets;
 use pgw_types::text::Text;
 use pgw_wire::framing::Framing;
+use pgw_wire::limits::{LARGE_LIMIT, SMALL_LIMIT};
 use pgw_wire::message::Message;
 use pgw_wire::reader::FieldReader;
 use pgw_wire::writer::{Writer, has_zero, put_text, refused_if};
@@ -39,7 +41,7 @@ impl CopyData {
 impl Message for CopyData {
     ghost row_framing = { Typed 100 };
 
-    ghost limit = { 1073741822 };
+    ghost limit = { LARGE_LIMIT };
 
     ghost reading = { copy_data_of };
 
@@ -52,7 +54,7 @@ impl Message for CopyData {
     }
 
     fn max_message_length() -> usize {
-        1073741822
+        LARGE_LIMIT
     }
 
     fn message_length(&self) -> usize {
@@ -99,7 +101,7 @@ impl CopyDone {
 impl Message for CopyDone {
     ghost row_framing = { Typed 99 };
 
-    ghost limit = { 10000 };
+    ghost limit = { SMALL_LIMIT };
 
     ghost reading = { copy_done_of };
 
@@ -112,7 +114,7 @@ impl Message for CopyDone {
     }
 
     fn max_message_length() -> usize {
-        10000
+        SMALL_LIMIT
     }
 
     fn message_length(&self) -> usize {
@@ -157,7 +159,7 @@ impl CopyFail {
 impl Message for CopyFail {
     ghost row_framing = { Typed 102 };
 
-    ghost limit = { 10000 };
+    ghost limit = { SMALL_LIMIT };
 
     ghost reading = { copy_fail_of };
 
@@ -170,7 +172,7 @@ impl Message for CopyFail {
     }
 
     fn max_message_length() -> usize {
-        10000
+        SMALL_LIMIT
     }
 
     #[tactic(auto, unfolding(pgw_wire::specs::Writing::text))]

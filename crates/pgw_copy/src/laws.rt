@@ -12,42 +12,48 @@ ghost use Rattle.pgw_copy.specs.declared.response.CopyOutResponse.{CopyOutRespon
 ghost use Rattle.pgw_copy.specs.declared.response.CopyBothResponse.{CopyBothResponse as TheCopyBothResponse};
 ghost use Rattle.pgw_copy.specs.Sound.{IsCopyFail, AreColumns};
 ghost use Rattle.pgw_copy.specs.Rows.{formats, is_miscounted, copy_data_of, SpellsCopyData, copy_done_of, SpellsCopyDone, copy_fail_of, SpellsCopyFail, copy_in_response_of, SpellsCopyInResponse, copy_out_response_of, SpellsCopyOutResponse, copy_both_response_of, SpellsCopyBothResponse};
+ghost use Rattle.pgw_wire.specs.declared.limits.TheConstants.{LARGE_LIMIT, SMALL_BACKEND_LIMIT, SMALL_LIMIT};
 
 /// What is read at the front of some bytes is spelled so, and what is spelled so is read, whatever follows it.
 pub fn rows_are_exact()
-    ensures copy_data { (ctx : TheContext) → IsRow 100 1073741822 (copy_data_of ctx)
+    ensures copy_data { (ctx : TheContext) → IsRow 100 LARGE_LIMIT (copy_data_of ctx)
         SpellsCopyData }
-    ensures copy_done { (ctx : TheContext) → IsRow 99 10000 (copy_done_of ctx) SpellsCopyDone }
-    ensures copy_fail { (ctx : TheContext) → IsRow 102 10000 (copy_fail_of ctx) SpellsCopyFail }
+    ensures copy_done { (ctx : TheContext) →
+        IsRow 99 SMALL_LIMIT (copy_done_of ctx) SpellsCopyDone }
+    ensures copy_fail { (ctx : TheContext) →
+        IsRow 102 SMALL_LIMIT (copy_fail_of ctx) SpellsCopyFail }
     ensures copy_in_response { (ctx : TheContext) →
-        IsRow 71 30000 (copy_in_response_of ctx) SpellsCopyInResponse }
+        IsRow 71 SMALL_BACKEND_LIMIT (copy_in_response_of ctx) SpellsCopyInResponse }
     ensures copy_out_response { (ctx : TheContext) →
-        IsRow 72 30000 (copy_out_response_of ctx) SpellsCopyOutResponse }
+        IsRow 72 SMALL_BACKEND_LIMIT (copy_out_response_of ctx) SpellsCopyOutResponse }
     ensures copy_both_response { (ctx : TheContext) →
-        IsRow 87 30000 (copy_both_response_of ctx) SpellsCopyBothResponse }
+        IsRow 87 SMALL_BACKEND_LIMIT (copy_both_response_of ctx) SpellsCopyBothResponse }
 {}
 
 /// What is written of a message spells it. CopyDone has no body.
 pub fn what_is_written_is_spelled()
     ensures copy_data { (m : TheCopyData) (g : List ℕ) →
-        encoded (Typed 100) 1073741822 None m.payload ≡ Ok g →
-        SpellsTyped 100 1073741822 SpellsCopyData m g }
+        encoded (Typed 100) LARGE_LIMIT None m.payload ≡ Ok g →
+        SpellsTyped 100 LARGE_LIMIT SpellsCopyData m g }
     ensures copy_fail { (m : TheCopyFail) (g : List ℕ) → IsCopyFail m →
-        encoded (Typed 102) 10000 (refused_if (has_zero m.message)) (text m.message) ≡ Ok g →
-        SpellsTyped 102 10000 SpellsCopyFail m g }
+        encoded (Typed 102) SMALL_LIMIT (refused_if (has_zero m.message)) (text m.message) ≡ Ok g →
+        SpellsTyped 102 SMALL_LIMIT SpellsCopyFail m g }
     ensures copy_in_response { (m : TheCopyInResponse) (g : List ℕ) →
         AreColumns m.format m.columns m.column_formats →
-        encoded (Typed 71) 30000 (refused_if (is_miscounted m.columns m.column_formats))
+        encoded (Typed 71) SMALL_BACKEND_LIMIT
+        (refused_if (is_miscounted m.columns m.column_formats))
         (formats m.format m.columns m.column_formats) ≡ Ok g →
-        SpellsTyped 71 30000 SpellsCopyInResponse m g }
+        SpellsTyped 71 SMALL_BACKEND_LIMIT SpellsCopyInResponse m g }
     ensures copy_out_response { (m : TheCopyOutResponse) (g : List ℕ) →
         AreColumns m.format m.columns m.column_formats →
-        encoded (Typed 72) 30000 (refused_if (is_miscounted m.columns m.column_formats))
+        encoded (Typed 72) SMALL_BACKEND_LIMIT
+        (refused_if (is_miscounted m.columns m.column_formats))
         (formats m.format m.columns m.column_formats) ≡ Ok g →
-        SpellsTyped 72 30000 SpellsCopyOutResponse m g }
+        SpellsTyped 72 SMALL_BACKEND_LIMIT SpellsCopyOutResponse m g }
     ensures copy_both_response { (m : TheCopyBothResponse) (g : List ℕ) →
         AreColumns m.format m.columns m.column_formats →
-        encoded (Typed 87) 30000 (refused_if (is_miscounted m.columns m.column_formats))
+        encoded (Typed 87) SMALL_BACKEND_LIMIT
+        (refused_if (is_miscounted m.columns m.column_formats))
         (formats m.format m.columns m.column_formats) ≡ Ok g →
-        SpellsTyped 87 30000 SpellsCopyBothResponse m g }
+        SpellsTyped 87 SMALL_BACKEND_LIMIT SpellsCopyBothResponse m g }
 {}

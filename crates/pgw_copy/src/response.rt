@@ -4,6 +4,7 @@ ghost use Rattle.pgw_wire.specs.declared.framing.Framing.TheVariants.{Typed};
 ghost use Rattle.pgw_wire.specs.Reading.{Reads};
 ghost use Rattle.pgw_wire.specs.Writing.{refused_if};
 ghost use Rattle.pgw_copy.specs.Rows.{columns_at, formats, is_miscounted as is_miscounted_list, copy_in_response_of, copy_out_response_of, copy_both_response_of};
+ghost use Rattle.pgw_wire.specs.declared.limits.TheConstants.{SMALL_BACKEND_LIMIT};
 
 use pgw_types::context::DecodeContext;
 use pgw_types::error::{PgWireError, PgWireResult};
@@ -12,6 +13,7 @@ use pgw_types::memory::OutOfMemory;
 use pgw_types::octets::Octets;
 use pgw_wire::field::{list_len, put_list, take_list, unsigned_count};
 use pgw_wire::framing::Framing;
+use pgw_wire::limits::SMALL_BACKEND_LIMIT;
 use pgw_wire::message::Message;
 use pgw_wire::reader::FieldReader;
 use pgw_wire::writer::{Writer, put_i16, put_u8, refused_if};
@@ -85,7 +87,7 @@ impl CopyInResponse {
 impl Message for CopyInResponse {
     ghost row_framing = { Typed 71 };
 
-    ghost limit = { 30000 };
+    ghost limit = { SMALL_BACKEND_LIMIT };
 
     ghost reading = { copy_in_response_of };
 
@@ -98,7 +100,7 @@ impl Message for CopyInResponse {
     }
 
     fn max_message_length() -> usize {
-        30000
+        SMALL_BACKEND_LIMIT
     }
 
     #[tactic(auto, unfolding(pgw_wire::specs::Writing::i16))]
@@ -164,7 +166,7 @@ impl CopyOutResponse {
 impl Message for CopyOutResponse {
     ghost row_framing = { Typed 72 };
 
-    ghost limit = { 30000 };
+    ghost limit = { SMALL_BACKEND_LIMIT };
 
     ghost reading = { copy_out_response_of };
 
@@ -177,7 +179,7 @@ impl Message for CopyOutResponse {
     }
 
     fn max_message_length() -> usize {
-        30000
+        SMALL_BACKEND_LIMIT
     }
 
     #[tactic(auto, unfolding(pgw_wire::specs::Writing::i16))]
@@ -243,7 +245,7 @@ impl CopyBothResponse {
 impl Message for CopyBothResponse {
     ghost row_framing = { Typed 87 };
 
-    ghost limit = { 30000 };
+    ghost limit = { SMALL_BACKEND_LIMIT };
 
     ghost reading = { copy_both_response_of };
 
@@ -256,7 +258,7 @@ impl Message for CopyBothResponse {
     }
 
     fn max_message_length() -> usize {
-        30000
+        SMALL_BACKEND_LIMIT
     }
 
     #[tactic(auto, unfolding(pgw_wire::specs::Writing::i16))]

@@ -9,6 +9,7 @@ ghost use Rattle.pgw_wire.specs.Values.{nullable_at};
 ghost use Rattle.pgw_ext.specs.Kinds.{is_name_refused as is_name_refused_list};
 ghost use Rattle.pgw_ext.specs.Rows.{bind_of, bind, is_bind_refused, bind_complete_of};
 ghost use Rattle.pgw_wire.specs.Counted.{is_too_long, counted16_at};
+ghost use Rattle.pgw_wire.specs.declared.limits.TheConstants.{LARGE_LIMIT, SMALL_BACKEND_LIMIT};
 
 use crate::kinds::{is_name_refused, name_len, put_name};
 use crate::parameter::{parameters_len, put_parameters, take_parameters};
@@ -21,6 +22,7 @@ use pgw_types::text::Text;
 use pgw_wire::counted::{put_counted16, take_counted16};
 use pgw_wire::field::list_len;
 use pgw_wire::framing::Framing;
+use pgw_wire::limits::{LARGE_LIMIT, SMALL_BACKEND_LIMIT};
 use pgw_wire::message::Message;
 use pgw_wire::reader::FieldReader;
 use pgw_wire::writer::{Writer, refused_if};
@@ -107,7 +109,7 @@ fn take_values(
 impl Message for Bind {
     ghost row_framing = { Typed 66 };
 
-    ghost limit = { 1073741822 };
+    ghost limit = { LARGE_LIMIT };
 
     ghost reading = { bind_of };
 
@@ -120,7 +122,7 @@ impl Message for Bind {
     }
 
     fn max_message_length() -> usize {
-        1073741822
+        LARGE_LIMIT
     }
 
     #[tactic(auto, unfolding(pgw_wire::specs::Writing::u16))]
@@ -179,7 +181,7 @@ impl BindComplete {
 impl Message for BindComplete {
     ghost row_framing = { Typed 50 };
 
-    ghost limit = { 30000 };
+    ghost limit = { SMALL_BACKEND_LIMIT };
 
     ghost reading = { bind_complete_of };
 
@@ -192,7 +194,7 @@ impl Message for BindComplete {
     }
 
     fn max_message_length() -> usize {
-        30000
+        SMALL_BACKEND_LIMIT
     }
 
     fn message_length(&self) -> usize {

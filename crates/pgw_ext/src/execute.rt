@@ -4,6 +4,7 @@ ghost use Rattle.pgw_wire.specs.declared.framing.Framing.TheVariants.{Typed};
 ghost use Rattle.pgw_wire.specs.Writing.{i32 as i32_bytes, refused_if};
 ghost use Rattle.pgw_ext.specs.Kinds.{name as name_bytes, is_name_refused as is_name_refused_list};
 ghost use Rattle.pgw_ext.specs.Rows.{execute_of, portal_suspended_of};
+ghost use Rattle.pgw_wire.specs.declared.limits.TheConstants.{SMALL_BACKEND_LIMIT, SMALL_LIMIT};
 
 use crate::kinds::{is_name_refused, name_len, put_name};
 use pgw_types::context::DecodeContext;
@@ -13,6 +14,7 @@ use pgw_types::memory::OutOfMemory;
 use pgw_types::octets::Octets;
 use pgw_types::text::Text;
 use pgw_wire::framing::Framing;
+use pgw_wire::limits::{SMALL_BACKEND_LIMIT, SMALL_LIMIT};
 use pgw_wire::message::Message;
 use pgw_wire::reader::FieldReader;
 use pgw_wire::writer::{Writer, put_i32, refused_if};
@@ -40,7 +42,7 @@ impl Execute {
 impl Message for Execute {
     ghost row_framing = { Typed 69 };
 
-    ghost limit = { 10000 };
+    ghost limit = { SMALL_LIMIT };
 
     ghost reading = { execute_of };
 
@@ -53,7 +55,7 @@ impl Message for Execute {
     }
 
     fn max_message_length() -> usize {
-        10000
+        SMALL_LIMIT
     }
 
     #[tactic(auto, unfolding(pgw_wire::specs::Writing::i32))]
@@ -104,7 +106,7 @@ impl PortalSuspended {
 impl Message for PortalSuspended {
     ghost row_framing = { Typed 115 };
 
-    ghost limit = { 30000 };
+    ghost limit = { SMALL_BACKEND_LIMIT };
 
     ghost reading = { portal_suspended_of };
 
@@ -117,7 +119,7 @@ impl Message for PortalSuspended {
     }
 
     fn max_message_length() -> usize {
-        30000
+        SMALL_BACKEND_LIMIT
     }
 
     fn message_length(&self) -> usize {

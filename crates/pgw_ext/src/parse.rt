@@ -3,6 +3,7 @@ ghost use Rattle.std.specs.Prelude.{◌≡◌, [], None};
 ghost use Rattle.pgw_wire.specs.declared.framing.Framing.TheVariants.{Typed};
 ghost use Rattle.pgw_wire.specs.Writing.{refused_if};
 ghost use Rattle.pgw_ext.specs.Rows.{parse_of, parse, is_parse_refused, parse_complete_of};
+ghost use Rattle.pgw_wire.specs.declared.limits.TheConstants.{LARGE_LIMIT, SMALL_BACKEND_LIMIT};
 
 use crate::kinds::{is_name_refused, name_len, put_name};
 use pgw_types::context::DecodeContext;
@@ -14,6 +15,7 @@ use pgw_types::text::Text;
 use pgw_wire::counted::{put_counted16, take_counted16};
 use pgw_wire::field::list_len;
 use pgw_wire::framing::Framing;
+use pgw_wire::limits::{LARGE_LIMIT, SMALL_BACKEND_LIMIT};
 use pgw_wire::message::Message;
 use pgw_wire::reader::FieldReader;
 use pgw_wire::writer::{Writer, has_zero, put_text, refused_if};
@@ -53,7 +55,7 @@ fn is_refused(m: &Parse) -> bool
 impl Message for Parse {
     ghost row_framing = { Typed 80 };
 
-    ghost limit = { 1073741822 };
+    ghost limit = { LARGE_LIMIT };
 
     ghost reading = { parse_of };
 
@@ -66,7 +68,7 @@ impl Message for Parse {
     }
 
     fn max_message_length() -> usize {
-        1073741822
+        LARGE_LIMIT
     }
 
     #[tactic(auto, unfolding(pgw_wire::specs::Writing::text, pgw_wire::specs::Writing::u16))]
@@ -117,7 +119,7 @@ impl ParseComplete {
 impl Message for ParseComplete {
     ghost row_framing = { Typed 49 };
 
-    ghost limit = { 30000 };
+    ghost limit = { SMALL_BACKEND_LIMIT };
 
     ghost reading = { parse_complete_of };
 
@@ -130,7 +132,7 @@ impl Message for ParseComplete {
     }
 
     fn max_message_length() -> usize {
-        30000
+        SMALL_BACKEND_LIMIT
     }
 
     fn message_length(&self) -> usize {

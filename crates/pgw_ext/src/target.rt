@@ -5,6 +5,7 @@ ghost use Rattle.pgw_wire.specs.Reading.{Reads};
 ghost use Rattle.pgw_wire.specs.Writing.{refused_if};
 ghost use Rattle.pgw_ext.specs.Kinds.{name as name_bytes, is_name_refused as is_name_refused_list};
 ghost use Rattle.pgw_ext.specs.Rows.{target_at, close_of, close_complete_of, describe_of};
+ghost use Rattle.pgw_wire.specs.declared.limits.TheConstants.{SMALL_BACKEND_LIMIT, SMALL_LIMIT};
 
 use crate::kinds::{is_name_refused, name_len, put_name};
 use pgw_types::context::DecodeContext;
@@ -14,6 +15,7 @@ use pgw_types::memory::OutOfMemory;
 use pgw_types::octets::Octets;
 use pgw_types::text::Text;
 use pgw_wire::framing::Framing;
+use pgw_wire::limits::{SMALL_BACKEND_LIMIT, SMALL_LIMIT};
 use pgw_wire::message::Message;
 use pgw_wire::reader::FieldReader;
 use pgw_wire::writer::{Writer, put_u8, refused_if};
@@ -65,7 +67,7 @@ impl Close {
 impl Message for Close {
     ghost row_framing = { Typed 67 };
 
-    ghost limit = { 10000 };
+    ghost limit = { SMALL_LIMIT };
 
     ghost reading = { close_of };
 
@@ -78,7 +80,7 @@ impl Message for Close {
     }
 
     fn max_message_length() -> usize {
-        10000
+        SMALL_LIMIT
     }
 
     fn message_length(&self) -> usize {
@@ -126,7 +128,7 @@ impl CloseComplete {
 impl Message for CloseComplete {
     ghost row_framing = { Typed 51 };
 
-    ghost limit = { 30000 };
+    ghost limit = { SMALL_BACKEND_LIMIT };
 
     ghost reading = { close_complete_of };
 
@@ -139,7 +141,7 @@ impl Message for CloseComplete {
     }
 
     fn max_message_length() -> usize {
-        30000
+        SMALL_BACKEND_LIMIT
     }
 
     fn message_length(&self) -> usize {
@@ -189,7 +191,7 @@ impl Describe {
 impl Message for Describe {
     ghost row_framing = { Typed 68 };
 
-    ghost limit = { 10000 };
+    ghost limit = { SMALL_LIMIT };
 
     ghost reading = { describe_of };
 
@@ -202,7 +204,7 @@ impl Message for Describe {
     }
 
     fn max_message_length() -> usize {
-        10000
+        SMALL_LIMIT
     }
 
     fn message_length(&self) -> usize {

@@ -15,6 +15,7 @@ use Rattle.pgw_copy.specs.Rows.{SpellsCopyData, SpellsCopyDone, SpellsCopyFail}
 use Rattle.pgw_frontend.specs.declared.frontend.SslNegotiationMetaMessage.TheVariants as negotiation
 use Rattle.pgw_frontend.specs.declared.frontend.PgWireFrontendMessage.{PgWireFrontendMessage}
 use Rattle.pgw_frontend.specs.declared.frontend.PgWireFrontendMessage.TheVariants as frontend
+use Rattle.pgw_wire.specs.declared.limits.TheConstants.{LARGE_LIMIT, SMALL_BACKEND_LIMIT, SMALL_LIMIT}
 
 -- these bytes, and no others, spell the message; that no encryption is asked for is spelled by none
 unfoldable pub SpellsFrontend : ProtocolVersion → PgWireFrontendMessage → List ℕ → Type 0
@@ -23,23 +24,24 @@ SpellsFrontend version (frontend.SslNegotiation (negotiation.PostgresSsl m)) =
 SpellsFrontend version (frontend.SslNegotiation (negotiation.PostgresGss m)) =
     SpellsCoded 80877104
 SpellsFrontend version (frontend.SslNegotiation negotiation.None) = λ bytes. bytes ≡ []
-SpellsFrontend version (frontend.Startup m) = SpellsUntyped 10000 SpellsStartup m
+SpellsFrontend version (frontend.Startup m) = SpellsUntyped SMALL_LIMIT SpellsStartup m
 SpellsFrontend version (frontend.CancelRequest m) =
-    SpellsUntyped 10000 (SpellsCancelRequest version) m
-SpellsFrontend version (frontend.PasswordMessageFamily m) = SpellsTyped 112 10000 SpellsRaw m
-SpellsFrontend version (frontend.PortalSuspended m) = SpellsTyped 115 30000 NoBody m
-SpellsFrontend version (frontend.Query m) = SpellsTyped 81 1073741822 SpellsQuery m
-SpellsFrontend version (frontend.Parse m) = SpellsTyped 80 1073741822 SpellsParse m
-SpellsFrontend version (frontend.Bind m) = SpellsTyped 66 1073741822 SpellsBind m
-SpellsFrontend version (frontend.Close m) = SpellsTyped 67 10000 SpellsClose m
-SpellsFrontend version (frontend.Describe m) = SpellsTyped 68 10000 SpellsDescribe m
-SpellsFrontend version (frontend.Execute m) = SpellsTyped 69 10000 SpellsExecute m
-SpellsFrontend version (frontend.Flush m) = SpellsTyped 72 10000 NoBody m
-SpellsFrontend version (frontend.Sync m) = SpellsTyped 83 10000 NoBody m
-SpellsFrontend version (frontend.Terminate m) = SpellsTyped 88 10000 NoBody m
-SpellsFrontend version (frontend.CopyData m) = SpellsTyped 100 1073741822 SpellsCopyData m
-SpellsFrontend version (frontend.CopyDone m) = SpellsTyped 99 10000 SpellsCopyDone m
-SpellsFrontend version (frontend.CopyFail m) = SpellsTyped 102 10000 SpellsCopyFail m
+    SpellsUntyped SMALL_LIMIT (SpellsCancelRequest version) m
+SpellsFrontend version (frontend.PasswordMessageFamily m) =
+    SpellsTyped 112 SMALL_LIMIT SpellsRaw m
+SpellsFrontend version (frontend.PortalSuspended m) = SpellsTyped 115 SMALL_BACKEND_LIMIT NoBody m
+SpellsFrontend version (frontend.Query m) = SpellsTyped 81 LARGE_LIMIT SpellsQuery m
+SpellsFrontend version (frontend.Parse m) = SpellsTyped 80 LARGE_LIMIT SpellsParse m
+SpellsFrontend version (frontend.Bind m) = SpellsTyped 66 LARGE_LIMIT SpellsBind m
+SpellsFrontend version (frontend.Close m) = SpellsTyped 67 SMALL_LIMIT SpellsClose m
+SpellsFrontend version (frontend.Describe m) = SpellsTyped 68 SMALL_LIMIT SpellsDescribe m
+SpellsFrontend version (frontend.Execute m) = SpellsTyped 69 SMALL_LIMIT SpellsExecute m
+SpellsFrontend version (frontend.Flush m) = SpellsTyped 72 SMALL_LIMIT NoBody m
+SpellsFrontend version (frontend.Sync m) = SpellsTyped 83 SMALL_LIMIT NoBody m
+SpellsFrontend version (frontend.Terminate m) = SpellsTyped 88 SMALL_LIMIT NoBody m
+SpellsFrontend version (frontend.CopyData m) = SpellsTyped 100 LARGE_LIMIT SpellsCopyData m
+SpellsFrontend version (frontend.CopyDone m) = SpellsTyped 99 SMALL_LIMIT SpellsCopyDone m
+SpellsFrontend version (frontend.CopyFail m) = SpellsTyped 102 SMALL_LIMIT SpellsCopyFail m
 
 -- whether the context awaits a first message, or one with a type byte
 abbrev pub AwaitsFirst : DecodeContext → Type 0

@@ -8,6 +8,7 @@ ghost use Rattle.pgw_types.specs.declared.context.DecodeContext.{DecodeContext a
 ghost use Rattle.pgw_types.specs.declared.context.ProtocolVersion.{ProtocolVersion as TheVersion};
 ghost use Rattle.pgw_frontend.specs.declared.frontend.PgWireFrontendMessage.{PgWireFrontendMessage as TheMessage};
 ghost use Rattle.pgw_frontend.specs.FrontendSpells.{SpellsFrontend, AwaitsFrontend, HasTypeByte};
+ghost use Rattle.pgw_wire.specs.declared.limits.TheConstants.{SMALL_LIMIT};
 
 /// No spelling of a message with a type byte goes on to another's, and no two messages of one phase share a spelling.
 pub fn no_spelling_goes_on()
@@ -21,5 +22,5 @@ pub fn no_spelling_goes_on()
 /// Where the code of a CancelRequest is looked for a Startup has none, since its major version is 3.
 pub fn a_startup_has_no_code()
     ensures { (m : TheStartup) (g rest : List ℕ) → m.protocol_number_minor < 2 ^ 16 →
-        SpellsUntyped 10000 SpellsStartup m g → has_code 80877102 (g ++ rest) ≡ false }
+        SpellsUntyped SMALL_LIMIT SpellsStartup m g → has_code 80877102 (g ++ rest) ≡ false }
 {}

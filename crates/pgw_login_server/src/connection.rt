@@ -6,6 +6,7 @@ ghost use Rattle.pgw_login.specs.declared.client_info.PgWireConnectionState.TheV
 ghost use Rattle.pgw_login_server.specs.Server.{Stage, ServerEnding, begins, begins_within, bound_in, stage_front};
 ghost use Rattle.pgw_login_server.specs.Stands.{stage_of, phase_at, IsAt, ServerStands, Arrives, WentOn};
 ghost use Rattle.pgw_login_server.specs.Steps.{is_end, DidHear, DidStep, AdvancesServer, ServerTakesAll};
+ghost use Rattle.pgw_wire.specs.declared.limits.TheConstants.{SMALL_LIMIT};
 
 use crate::front::next_message;
 use bytes::BytesMut;
@@ -155,7 +156,8 @@ impl<H: StartupHandler> ServerCore<H> {
             ≡ More }
         // Under a bound, until the client may ask, no more waits than the bound says, or 10000 bytes.
         ensures little { (bound : ℕ) → self.new.bound ≡ Some bound → self.new.over ≡ false →
-            self.new.client.state ≢ ReadyForQuery → length self.new.inbox.items ≤ max 10000 bound }
+            self.new.client.state ≢ ReadyForQuery →
+            length self.new.inbox.items ≤ max SMALL_LIMIT bound }
     {
         if self.over {
             return Err(PgWireError::InvalidSASLState);

@@ -18,6 +18,7 @@ ghost use Rattle.pgw_login_server.specs.Pieces.{LeadOn};
 ghost use Rattle.pgw_login_server.specs.Server.{Stage, ServerEnding, stage_front, serving};
 ghost use Rattle.pgw_login_server.specs.Taken.{taken_in, Accounts};
 ghost use Rattle.pgw_login_server.specs.Unregistered.{Nowhere, StaysUnregistered};
+ghost use Rattle.pgw_wire.specs.declared.limits.TheConstants.{SMALL_LIMIT};
 
 use pgw_login::handler::StartupHandler;
 use pgw_login::provider::ServerParameterProvider;
@@ -100,7 +101,8 @@ pub fn a_bound_holds_until_the_login()
         stage_front stage bytes ≡ Bad why }
     // What waits has no more bytes than the bound says, or 10000.
     ensures little { (stage : Stage) (bound : ℕ) (bytes : List ℕ) →
-        IsBounded stage bound → stage_front stage bytes ≡ More → length bytes ≤ max 10000 bound }
+        IsBounded stage bound → stage_front stage bytes ≡ More →
+        length bytes ≤ max SMALL_LIMIT bound }
 {}
 
 /// Where a handler registers nothing, a login that is registered nowhere stays so, also at an end, and its pass is the one

@@ -11,12 +11,13 @@ use Rattle.pgw_query.specs.declared.run.Run.TheVariants as run
 use Rattle.pgw_query.specs.declared.run.Span.{Span}
 use Rattle.pgw_query.specs.declared.run.Head.{Head}
 use Rattle.pgw_query.specs.declared.row_ref.DataRowRef.{DataRowRef}
+use Rattle.pgw_wire.specs.declared.limits.TheConstants.{LONG_LIMIT}
 
 -- ---- which bytes are rows
 
 -- these bytes, and no others, are the row as a message: `D`, its length, the number of its values, and its payload
 abbrev pub SpellsRow : DataRow → List ℕ → Type 0
-SpellsRow row bytes = SpellsTyped 68 2147483647 SpellsDataRow row bytes
+SpellsRow row bytes = SpellsTyped 68 LONG_LIMIT SpellsDataRow row bytes
 
 -- some rows, one behind the other
 abbrev pub SpellsRows : List DataRow → List ℕ → Type 0

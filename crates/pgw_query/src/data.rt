@@ -7,6 +7,7 @@ ghost use Rattle.pgw_wire.specs.Reading.{Reads, nat_at, int_at};
 ghost use Rattle.pgw_wire.specs.Formats.{pair_at};
 ghost use Rattle.pgw_wire.specs.Writing.{has_zero as holds_zero, refused_if};
 ghost use Rattle.pgw_query.specs.Rows.{field_at, field, row_description_of, row_description, is_refused as is_refused_list, data_row_of, data_row};
+ghost use Rattle.pgw_wire.specs.declared.limits.TheConstants.{LONG_LIMIT};
 
 use pgw_types::context::DecodeContext;
 use pgw_types::error::{PgWireError, PgWireResult};
@@ -16,6 +17,7 @@ use pgw_types::octets::Octets;
 use pgw_types::text::Text;
 use pgw_wire::field::{Field, list_len, put_list, take_list, unsigned_count};
 use pgw_wire::framing::Framing;
+use pgw_wire::limits::LONG_LIMIT;
 use pgw_wire::message::Message;
 use pgw_wire::reader::FieldReader;
 use pgw_wire::writer::{
@@ -170,7 +172,7 @@ fn is_refused(fields: &[FieldDescription]) -> bool
 impl Message for RowDescription {
     ghost row_framing = { Typed 84 };
 
-    ghost limit = { 2147483647 };
+    ghost limit = { LONG_LIMIT };
 
     ghost reading = { row_description_of };
 
@@ -183,7 +185,7 @@ impl Message for RowDescription {
     }
 
     fn max_message_length() -> usize {
-        2147483647
+        LONG_LIMIT
     }
 
     #[tactic(auto, unfolding(pgw_wire::specs::Writing::u16))]
@@ -237,7 +239,7 @@ impl DataRow {
 impl Message for DataRow {
     ghost row_framing = { Typed 68 };
 
-    ghost limit = { 2147483647 };
+    ghost limit = { LONG_LIMIT };
 
     ghost reading = { data_row_of };
 
@@ -250,7 +252,7 @@ impl Message for DataRow {
     }
 
     fn max_message_length() -> usize {
-        2147483647
+        LONG_LIMIT
     }
 
     #[tactic(auto, unfolding(pgw_wire::specs::Writing::i16))]

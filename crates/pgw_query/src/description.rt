@@ -4,6 +4,7 @@ ghost use Rattle.pgw_wire.specs.declared.framing.Framing.TheVariants.{Typed};
 ghost use Rattle.pgw_wire.specs.Counted.{is_too_long, counted16};
 ghost use Rattle.pgw_wire.specs.Writing.{u32 as u32_bytes, refused_if};
 ghost use Rattle.pgw_query.specs.Rows.{parameter_description_of, no_data_of};
+ghost use Rattle.pgw_wire.specs.declared.limits.TheConstants.{LONG_LIMIT, SMALL_BACKEND_LIMIT};
 
 use pgw_types::context::DecodeContext;
 use pgw_types::error::{PgWireError, PgWireResult};
@@ -13,6 +14,7 @@ use pgw_types::octets::Octets;
 use pgw_wire::counted::{put_counted16, take_counted16};
 use pgw_wire::field::list_len;
 use pgw_wire::framing::Framing;
+use pgw_wire::limits::{LONG_LIMIT, SMALL_BACKEND_LIMIT};
 use pgw_wire::message::Message;
 use pgw_wire::reader::FieldReader;
 use pgw_wire::writer::{Writer, refused_if};
@@ -39,7 +41,7 @@ impl ParameterDescription {
 impl Message for ParameterDescription {
     ghost row_framing = { Typed 116 };
 
-    ghost limit = { 2147483647 };
+    ghost limit = { LONG_LIMIT };
 
     ghost reading = { parameter_description_of };
 
@@ -52,7 +54,7 @@ impl Message for ParameterDescription {
     }
 
     fn max_message_length() -> usize {
-        2147483647
+        LONG_LIMIT
     }
 
     #[tactic(auto, unfolding(pgw_wire::specs::Writing::u16))]
@@ -98,7 +100,7 @@ impl NoData {
 impl Message for NoData {
     ghost row_framing = { Typed 110 };
 
-    ghost limit = { 30000 };
+    ghost limit = { SMALL_BACKEND_LIMIT };
 
     ghost reading = { no_data_of };
 
@@ -111,7 +113,7 @@ impl Message for NoData {
     }
 
     fn max_message_length() -> usize {
-        30000
+        SMALL_BACKEND_LIMIT
     }
 
     fn message_length(&self) -> usize {

@@ -19,60 +19,61 @@ ghost use Rattle.pgw_query.specs.declared.tag.Tag.{Tag as TheTag};
 ghost use Rattle.pgw_query.specs.Tags.{IsWord, AreCounts, tag_of, tag_text};
 ghost use Rattle.pgw_query.specs.Sound.{AreFields, AreCoded, IsDataRow, IsParameterDescription, IsNotification};
 ghost use Rattle.pgw_query.specs.Rows.{query_of, command_complete_of, empty_query_response_of, ready_for_query_of, error_response_of, notice_response_of, notification_response_of, parameter_description_of, row_description_of, data_row_of, no_data_of, SpellsQuery, SpellsCommandComplete, SpellsReadyForQuery, SpellsErrorResponse, SpellsNoticeResponse, SpellsNotificationResponse, SpellsParameterDescription, SpellsRowDescription, SpellsDataRow, status_byte, codes, codes_fault, is_refused, row_description, data_row, notification_response, is_notification_refused};
+ghost use Rattle.pgw_wire.specs.declared.limits.TheConstants.{LARGE_LIMIT, LONG_LIMIT, SMALL_BACKEND_LIMIT};
 
 /// What is read at the front of some bytes is spelled so, and what is spelled so is read, whatever follows it.
 pub fn rows_are_exact()
-    ensures query { (ctx : TheContext) → IsRow 81 1073741822 (query_of ctx) SpellsQuery }
+    ensures query { (ctx : TheContext) → IsRow 81 LARGE_LIMIT (query_of ctx) SpellsQuery }
     ensures command_complete { (ctx : TheContext) →
-        IsRow 67 30000 (command_complete_of ctx) SpellsCommandComplete }
+        IsRow 67 SMALL_BACKEND_LIMIT (command_complete_of ctx) SpellsCommandComplete }
     ensures empty_query_response { (ctx : TheContext) →
-        IsRow 73 30000 (empty_query_response_of ctx) NoBody }
+        IsRow 73 SMALL_BACKEND_LIMIT (empty_query_response_of ctx) NoBody }
     ensures ready_for_query { (ctx : TheContext) →
-        IsRow 90 30000 (ready_for_query_of ctx) SpellsReadyForQuery }
+        IsRow 90 SMALL_BACKEND_LIMIT (ready_for_query_of ctx) SpellsReadyForQuery }
     ensures error_response { (ctx : TheContext) →
-        IsRow 69 2147483647 (error_response_of ctx) SpellsErrorResponse }
+        IsRow 69 LONG_LIMIT (error_response_of ctx) SpellsErrorResponse }
     ensures notice_response { (ctx : TheContext) →
-        IsRow 78 2147483647 (notice_response_of ctx) SpellsNoticeResponse }
+        IsRow 78 LONG_LIMIT (notice_response_of ctx) SpellsNoticeResponse }
     ensures notification_response { (ctx : TheContext) →
-        IsRow 65 2147483647 (notification_response_of ctx) SpellsNotificationResponse }
+        IsRow 65 LONG_LIMIT (notification_response_of ctx) SpellsNotificationResponse }
     ensures parameter_description { (ctx : TheContext) →
-        IsRow 116 2147483647 (parameter_description_of ctx) SpellsParameterDescription }
+        IsRow 116 LONG_LIMIT (parameter_description_of ctx) SpellsParameterDescription }
     ensures row_description { (ctx : TheContext) →
-        IsRow 84 2147483647 (row_description_of ctx) SpellsRowDescription }
-    ensures data_row { (ctx : TheContext) → IsRow 68 2147483647 (data_row_of ctx) SpellsDataRow }
-    ensures no_data { (ctx : TheContext) → IsRow 110 30000 (no_data_of ctx) NoBody }
+        IsRow 84 LONG_LIMIT (row_description_of ctx) SpellsRowDescription }
+    ensures data_row { (ctx : TheContext) → IsRow 68 LONG_LIMIT (data_row_of ctx) SpellsDataRow }
+    ensures no_data { (ctx : TheContext) → IsRow 110 SMALL_BACKEND_LIMIT (no_data_of ctx) NoBody }
 {}
 
 /// What is written of a message spells it. The others have no body.
 pub fn what_is_written_is_spelled()
     ensures query { (m : TheQuery) (g : List ℕ) → IsUtf8 m.query →
-        encoded (Typed 81) 1073741822 (refused_if (has_zero m.query)) (text m.query) ≡ Ok g →
-        SpellsTyped 81 1073741822 SpellsQuery m g }
+        encoded (Typed 81) LARGE_LIMIT (refused_if (has_zero m.query)) (text m.query) ≡ Ok g →
+        SpellsTyped 81 LARGE_LIMIT SpellsQuery m g }
     ensures command_complete { (m : TheCommandComplete) (g : List ℕ) → IsUtf8 m.tag →
-        encoded (Typed 67) 30000 (refused_if (has_zero m.tag)) (text m.tag) ≡ Ok g →
-        SpellsTyped 67 30000 SpellsCommandComplete m g }
+        encoded (Typed 67) SMALL_BACKEND_LIMIT (refused_if (has_zero m.tag)) (text m.tag) ≡ Ok g →
+        SpellsTyped 67 SMALL_BACKEND_LIMIT SpellsCommandComplete m g }
     ensures ready_for_query { (m : TheReadyForQuery) (g : List ℕ) →
-        encoded (Typed 90) 30000 None (status_byte m.status ∷ []) ≡ Ok g →
-        SpellsTyped 90 30000 SpellsReadyForQuery m g }
+        encoded (Typed 90) SMALL_BACKEND_LIMIT None (status_byte m.status ∷ []) ≡ Ok g →
+        SpellsTyped 90 SMALL_BACKEND_LIMIT SpellsReadyForQuery m g }
     ensures error_response { (m : TheErrorResponse) (g : List ℕ) → AreCoded m.fields →
-        encoded (Typed 69) 2147483647 (codes_fault m.fields) (codes m.fields) ≡ Ok g →
-        SpellsTyped 69 2147483647 SpellsErrorResponse m g }
+        encoded (Typed 69) LONG_LIMIT (codes_fault m.fields) (codes m.fields) ≡ Ok g →
+        SpellsTyped 69 LONG_LIMIT SpellsErrorResponse m g }
     ensures notice_response { (m : TheNoticeResponse) (g : List ℕ) → AreCoded m.fields →
-        encoded (Typed 78) 2147483647 (codes_fault m.fields) (codes m.fields) ≡ Ok g →
-        SpellsTyped 78 2147483647 SpellsNoticeResponse m g }
+        encoded (Typed 78) LONG_LIMIT (codes_fault m.fields) (codes m.fields) ≡ Ok g →
+        SpellsTyped 78 LONG_LIMIT SpellsNoticeResponse m g }
     ensures notification_response { (m : TheNotification) (g : List ℕ) → IsNotification m →
-        encoded (Typed 65) 2147483647 (refused_if (is_notification_refused m))
-        (notification_response m) ≡ Ok g → SpellsTyped 65 2147483647 SpellsNotificationResponse m
+        encoded (Typed 65) LONG_LIMIT (refused_if (is_notification_refused m))
+        (notification_response m) ≡ Ok g → SpellsTyped 65 LONG_LIMIT SpellsNotificationResponse m
         g }
     ensures parameter_description { (m : TheParameters) (g : List ℕ) → IsParameterDescription m →
-        encoded (Typed 116) 2147483647 (refused_if (is_too_long m.types)) (counted16 u32 m.types)
-        ≡ Ok g → SpellsTyped 116 2147483647 SpellsParameterDescription m g }
+        encoded (Typed 116) LONG_LIMIT (refused_if (is_too_long m.types)) (counted16 u32 m.types)
+        ≡ Ok g → SpellsTyped 116 LONG_LIMIT SpellsParameterDescription m g }
     ensures row_description { (m : TheRowDescription) (g : List ℕ) → AreFields m.fields →
-        encoded (Typed 84) 2147483647 (refused_if (is_refused m.fields)) (row_description m)
-        ≡ Ok g → SpellsTyped 84 2147483647 SpellsRowDescription m g }
+        encoded (Typed 84) LONG_LIMIT (refused_if (is_refused m.fields)) (row_description m)
+        ≡ Ok g → SpellsTyped 84 LONG_LIMIT SpellsRowDescription m g }
     ensures data_row { (m : TheDataRow) (g : List ℕ) → IsDataRow m →
-        encoded (Typed 68) 2147483647 None (data_row m) ≡ Ok g →
-        SpellsTyped 68 2147483647 SpellsDataRow m g }
+        encoded (Typed 68) LONG_LIMIT None (data_row m) ≡ Ok g →
+        SpellsTyped 68 LONG_LIMIT SpellsDataRow m g }
 {}
 
 /// A tag of one word, with no counts, with rows, or with an object and rows, comes back from its text.

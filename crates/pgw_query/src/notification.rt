@@ -3,6 +3,7 @@ ghost use Rattle.std.specs.Prelude.{◌≡◌, ◌++◌, ◌||◌};
 ghost use Rattle.pgw_wire.specs.declared.framing.Framing.TheVariants.{Typed};
 ghost use Rattle.pgw_wire.specs.Writing.{refused_if};
 ghost use Rattle.pgw_query.specs.Rows.{notification_response_of, notification_response, is_notification_refused};
+ghost use Rattle.pgw_wire.specs.declared.limits.TheConstants.{LONG_LIMIT};
 
 use pgw_types::context::DecodeContext;
 use pgw_types::error::{PgWireError, PgWireResult};
@@ -11,6 +12,7 @@ use pgw_types::memory::OutOfMemory;
 use pgw_types::octets::Octets;
 use pgw_types::text::Text;
 use pgw_wire::framing::Framing;
+use pgw_wire::limits::LONG_LIMIT;
 use pgw_wire::message::Message;
 use pgw_wire::reader::FieldReader;
 use pgw_wire::writer::{Writer, has_zero, put_i32, put_text, refused_if};
@@ -41,7 +43,7 @@ impl NotificationResponse {
 impl Message for NotificationResponse {
     ghost row_framing = { Typed 65 };
 
-    ghost limit = { 2147483647 };
+    ghost limit = { LONG_LIMIT };
 
     ghost reading = { notification_response_of };
 
@@ -54,7 +56,7 @@ impl Message for NotificationResponse {
     }
 
     fn max_message_length() -> usize {
-        2147483647
+        LONG_LIMIT
     }
 
     #[tactic(auto, unfolding(pgw_wire::specs::Writing::text, pgw_wire::specs::Writing::i32))]

@@ -7,6 +7,7 @@ ghost use Rattle.std.specs.List.{list_any, flat_map};
 ghost use Rattle.pgw_wire.specs.Codes.{is_code_refused};
 ghost use Rattle.pgw_query.specs.Rows.{status_of_byte, status_byte, ready_for_query_of, command_complete_of, empty_query_response_of, error_response_of, notice_response_of, codes_at, codes, codes_fault};
 ghost use Rattle.pgw_wire.specs.Reading.{Reads};
+ghost use Rattle.pgw_wire.specs.declared.limits.TheConstants.{LONG_LIMIT, SMALL_BACKEND_LIMIT};
 
 use pgw_types::context::DecodeContext;
 use pgw_types::error::{PgWireError, PgWireResult};
@@ -18,6 +19,7 @@ use pgw_types::text::Text;
 use pgw_wire::field::{list_len, put_list};
 use pgw_wire::framing::Framing;
 use pgw_wire::item::take_up_to_mark;
+use pgw_wire::limits::{LONG_LIMIT, SMALL_BACKEND_LIMIT};
 use pgw_wire::message::Message;
 use pgw_wire::reader::FieldReader;
 use pgw_wire::writer::{Writer, has_zero, put_text, put_u8, refused_if};
@@ -80,7 +82,7 @@ impl ReadyForQuery {
 impl Message for ReadyForQuery {
     ghost row_framing = { Typed 90 };
 
-    ghost limit = { 30000 };
+    ghost limit = { SMALL_BACKEND_LIMIT };
 
     ghost reading = { ready_for_query_of };
 
@@ -93,7 +95,7 @@ impl Message for ReadyForQuery {
     }
 
     fn max_message_length() -> usize {
-        30000
+        SMALL_BACKEND_LIMIT
     }
 
     fn message_length(&self) -> usize {
@@ -144,7 +146,7 @@ impl CommandComplete {
 impl Message for CommandComplete {
     ghost row_framing = { Typed 67 };
 
-    ghost limit = { 30000 };
+    ghost limit = { SMALL_BACKEND_LIMIT };
 
     ghost reading = { command_complete_of };
 
@@ -157,7 +159,7 @@ impl Message for CommandComplete {
     }
 
     fn max_message_length() -> usize {
-        30000
+        SMALL_BACKEND_LIMIT
     }
 
     #[tactic(auto, unfolding(pgw_wire::specs::Writing::text))]
@@ -201,7 +203,7 @@ impl EmptyQueryResponse {
 impl Message for EmptyQueryResponse {
     ghost row_framing = { Typed 73 };
 
-    ghost limit = { 30000 };
+    ghost limit = { SMALL_BACKEND_LIMIT };
 
     ghost reading = { empty_query_response_of };
 
@@ -214,7 +216,7 @@ impl Message for EmptyQueryResponse {
     }
 
     fn max_message_length() -> usize {
-        30000
+        SMALL_BACKEND_LIMIT
     }
 
     fn message_length(&self) -> usize {
@@ -295,7 +297,7 @@ impl ErrorResponse {
 impl Message for ErrorResponse {
     ghost row_framing = { Typed 69 };
 
-    ghost limit = { 2147483647 };
+    ghost limit = { LONG_LIMIT };
 
     ghost reading = { error_response_of };
 
@@ -308,7 +310,7 @@ impl Message for ErrorResponse {
     }
 
     fn max_message_length() -> usize {
-        2147483647
+        LONG_LIMIT
     }
 
     fn message_length(&self) -> usize {
@@ -362,7 +364,7 @@ impl NoticeResponse {
 impl Message for NoticeResponse {
     ghost row_framing = { Typed 78 };
 
-    ghost limit = { 2147483647 };
+    ghost limit = { LONG_LIMIT };
 
     ghost reading = { notice_response_of };
 
@@ -375,7 +377,7 @@ impl Message for NoticeResponse {
     }
 
     fn max_message_length() -> usize {
-        2147483647
+        LONG_LIMIT
     }
 
     fn message_length(&self) -> usize {

@@ -4,6 +4,7 @@ ghost use Rattle.pgw_wire.specs.declared.framing.Framing.TheVariants.{Typed};
 ghost use Rattle.pgw_wire.specs.Framing.{Appends, body_or, encoded, saturated};
 ghost use Rattle.pgw_wire.specs.Writing.{text, has_zero as holds_zero, refused_if};
 ghost use Rattle.pgw_query.specs.Rows.{query_of};
+ghost use Rattle.pgw_wire.specs.declared.limits.TheConstants.{LARGE_LIMIT};
 
 use bytes::BytesMut;
 use pgw_types::context::DecodeContext;
@@ -13,6 +14,7 @@ use pgw_types::memory::OutOfMemory;
 use pgw_types::octets::Octets;
 use pgw_types::text::Text;
 use pgw_wire::framing::Framing;
+use pgw_wire::limits::LARGE_LIMIT;
 use pgw_wire::message::Message;
 use pgw_wire::reader::FieldReader;
 use pgw_wire::writer::{Writer, has_zero, put_header, put_text, refused_if};
@@ -37,7 +39,7 @@ impl Query {
 impl Message for Query {
     ghost row_framing = { Typed 81 };
 
-    ghost limit = { 1073741822 };
+    ghost limit = { LARGE_LIMIT };
 
     ghost reading = { query_of };
 
@@ -50,7 +52,7 @@ impl Message for Query {
     }
 
     fn max_message_length() -> usize {
-        1073741822
+        LARGE_LIMIT
     }
 
     fn message_length(&self) -> usize {
@@ -86,7 +88,7 @@ fn length_of(query: &Text) -> usize
 #[tactic(auto, unfolding(pgw_wire::specs::Framing::encoded))]
 pub fn encode_query(query: &Text, buf: &mut BytesMut) -> PgWireResult<()>
     ensures { Appends result buf.old.items buf.new.items
-        (encoded (Typed 81) 1073741822 (refused_if (holds_zero query.now)) (text query.now)) }
+        (encoded (Typed 81) LARGE_LIMIT (refused_if (holds_zero query.now)) (text query.now)) }
 {
     let limit = Query::max_message_length();
     let len = length_of(query);

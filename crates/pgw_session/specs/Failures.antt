@@ -28,7 +28,8 @@ pub record SessionGoesOn (input : Input) (closed : List (List Event)) (part : Li
     pub rest : List Event
     pub later : List (List Event)
     pub transcript : IsTranscript input (closed ++ (part ++ Got next ∷ rest) ∷ later)
-    pub opening : (more : List Event) × (part ≡ map Sent (opening_at input (length closed)) ++ more)
+    pub opening : (more : List Event)
+        × (part ≡ map Sent (opening_at input (length closed)) ++ more)
 
 -- so it is too before a login block, whether or not this client can log in
 abbrev pub IsServersTurn : Input → List (List Event) → List Event → Type 0
@@ -71,7 +72,8 @@ refusal_at input Before (backend.Authentication (authentication.SASL methods)) =
     methods_refusal input methods
 refusal_at input (AtFirst methods) (backend.Authentication (authentication.SASLContinue first)) =
     first_refusal (scram_login input methods) first
-refusal_at input (AtFinal methods first) (backend.Authentication (authentication.SASLFinal final)) =
+refusal_at input (AtFinal methods first) (backend.Authentication (authentication.SASLFinal final))
+    =
     final_refusal (expected_of (scram_login input methods) first) final
 refusal_at input p m = None
 

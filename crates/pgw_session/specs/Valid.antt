@@ -13,6 +13,7 @@ use Rattle.pgw_config.specs.declared.config.ChannelBinding.TheVariants as channe
 use Rattle.pgw_session.specs.declared.types.Request.{Request}
 use Rattle.pgw_session.specs.Input.{Input}
 use Rattle.pgw_session.specs.Requests.{sends_of}
+use Rattle.pgw_wire.specs.declared.limits.TheConstants.{LARGE_LIMIT, SMALL_LIMIT}
 
 -- no byte of a text is zero: on the wire a zero byte ends it (Message Data Types, String)
 abbrev pub HasNoZero : List ℕ → Type 0
@@ -40,25 +41,26 @@ IsValidName n = IfSome n HasNoZero
 -- no text has a zero byte, nothing is counted above 65535, and the message is within its limit
 abbrev pub IsValidMessage : Frontend → Type 0
 IsValidMessage (frontend.PasswordMessageFamily (family.Password m)) =
-    HasNoZero m.password × FitsLimit 10000 (text m.password)
+    HasNoZero m.password × FitsLimit SMALL_LIMIT (text m.password)
 IsValidMessage (frontend.PasswordMessageFamily (family.SASLInitialResponse m)) =
-    (0 < length m.auth_method) × HasNoZero m.auth_method × FitsLimit 10000 (initial_response m)
+    (0 < length m.auth_method) × HasNoZero m.auth_method
+    × FitsLimit SMALL_LIMIT (initial_response m)
 IsValidMessage (frontend.PasswordMessageFamily (family.SASLResponse m)) =
-    FitsLimit 10000 m.payload
-IsValidMessage (frontend.Query m) = HasNoZero m.query × FitsLimit 1073741822 (text m.query)
+    FitsLimit SMALL_LIMIT m.payload
+IsValidMessage (frontend.Query m) = HasNoZero m.query × FitsLimit LARGE_LIMIT (text m.query)
 IsValidMessage (frontend.Parse m) =
     IsValidName m.name × HasNoZero m.query × (length m.type_oids ≤ 65535)
-    × FitsLimit 1073741822 (parse m)
+    × FitsLimit LARGE_LIMIT (parse m)
 IsValidMessage (frontend.Bind m) =
     IsValidName m.portal_name × IsValidName m.statement_name
     × (length m.parameter_format_codes ≤ 65535) × (length m.parameters ≤ 65535)
-    × (length m.result_column_format_codes ≤ 65535) × FitsLimit 1073741822 (bind m)
+    × (length m.result_column_format_codes ≤ 65535) × FitsLimit LARGE_LIMIT (bind m)
 IsValidMessage (frontend.Execute m) =
-    IsValidName m.name × FitsLimit 10000 (name m.name ++ i32 m.max_rows)
+    IsValidName m.name × FitsLimit SMALL_LIMIT (name m.name ++ i32 m.max_rows)
 IsValidMessage (frontend.Describe m) =
-    IsValidName m.name × FitsLimit 10000 (m.target_type ∷ name m.name)
+    IsValidName m.name × FitsLimit SMALL_LIMIT (m.target_type ∷ name m.name)
 IsValidMessage (frontend.Close m) =
-    IsValidName m.name × FitsLimit 10000 (m.target_type ∷ name m.name)
+    IsValidName m.name × FitsLimit SMALL_LIMIT (m.target_type ∷ name m.name)
 IsValidMessage (frontend.Flush m) = Unit {0}
 IsValidMessage (frontend.Sync m) = Unit {0}
 IsValidMessage m = ⊥
@@ -79,7 +81,7 @@ pub record IsValidInput (input : Input) : Type 0 where
   pub application_name : IfSome (input.config).application_name HasNoZero
   pub user : IfSome (input.config).user HasNoZero
   pub database : IfSome (input.config).dbname HasNoZero
-  pub startup : startup_size input ≤ 10000
+  pub startup : startup_size input ≤ SMALL_LIMIT
   pub requests : All IsValidRequest input.requests
 
 -- How a client logs in is as the server asks: with nothing, with the password as text, with its MD5, or with SCRAM, whose

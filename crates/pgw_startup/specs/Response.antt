@@ -12,6 +12,7 @@ use Rattle.pgw_startup.specs.declared.response.SslResponse.{SslResponse}
 use Rattle.pgw_startup.specs.declared.response.SslResponse.TheVariants as ssl
 use Rattle.pgw_startup.specs.declared.response.GssEncResponse.{GssEncResponse}
 use Rattle.pgw_startup.specs.declared.response.GssEncResponse.TheVariants as gss
+use Rattle.pgw_wire.specs.declared.limits.TheConstants.{SMALL_LIMIT}
 
 abbrev pub ssl_byte : SslResponse → ℕ
 ssl_byte ssl.Accept = 83
@@ -48,7 +49,7 @@ gss_enc_response_of ctx bytes = all_of (tried_at gss_reply (nat_at w8) bytes)
 pub record IsReply {M : Type 0} (read : List ℕ → Result M PgWireError)
     (Spells : M → List ℕ → Type 0) : Type 0 where
   pub found : (bytes : List ℕ) (m : M) (rest : List ℕ)
-      → wire_front OneByte 10000 read bytes ≡ Ok (Some (m, rest))
+      → wire_front OneByte SMALL_LIMIT read bytes ≡ Ok (Some (m, rest))
       → (g : List ℕ) × (bytes ≡ g ++ rest) × Spells m g
   pub only : (m : M) (g rest : List ℕ) → Spells m g
-      → wire_front OneByte 10000 read (g ++ rest) ≡ Ok (Some (m, rest))
+      → wire_front OneByte SMALL_LIMIT read (g ++ rest) ≡ Ok (Some (m, rest))

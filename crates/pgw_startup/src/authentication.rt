@@ -7,6 +7,7 @@ ghost use Rattle.pgw_wire.specs.Formats.{made_at};
 ghost use Rattle.pgw_wire.specs.Writing.{text as text_bytes, u32 as u32_bytes};
 ghost use Rattle.pgw_startup.specs.declared.authentication.Authentication.TheVariants.{MD5Password, SASL, SASLContinue, SASLFinal};
 ghost use Rattle.pgw_startup.specs.Login.{by_code, authentication_of, authentication, is_method_refused, authentication_fault};
+ghost use Rattle.pgw_wire.specs.declared.limits.TheConstants.{SMALL_BACKEND_LIMIT};
 
 use pgw_types::context::DecodeContext;
 use pgw_types::error::{PgWireError, PgWireResult};
@@ -17,6 +18,7 @@ use pgw_types::text::Text;
 use pgw_wire::field::{list_len, put_list};
 use pgw_wire::framing::Framing;
 use pgw_wire::item::take_up_to_mark;
+use pgw_wire::limits::SMALL_BACKEND_LIMIT;
 use pgw_wire::message::Message;
 use pgw_wire::reader::FieldReader;
 use pgw_wire::writer::{Writer, has_zero, put_u8, put_u32, refused_if};
@@ -121,7 +123,7 @@ fn put_methods(out: &mut Writer, methods: &[Text]) -> Result<(), OutOfMemory>
 impl Message for Authentication {
     ghost row_framing = { Typed 82 };
 
-    ghost limit = { 30000 };
+    ghost limit = { SMALL_BACKEND_LIMIT };
 
     ghost reading = { authentication_of };
 
@@ -134,7 +136,7 @@ impl Message for Authentication {
     }
 
     fn max_message_length() -> usize {
-        30000
+        SMALL_BACKEND_LIMIT
     }
 
     #[tactic(auto, unfolding(pgw_wire::specs::Writing::u32))]

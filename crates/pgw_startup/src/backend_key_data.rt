@@ -3,6 +3,7 @@ ghost use Rattle.std.specs.Prelude.{◌≡◌, ◌++◌};
 ghost use Rattle.pgw_wire.specs.declared.framing.Framing.TheVariants.{Typed};
 ghost use Rattle.pgw_wire.specs.Keys.{key_fault};
 ghost use Rattle.pgw_startup.specs.Login.{backend_key_data_of, backend_key_data};
+ghost use Rattle.pgw_wire.specs.declared.limits.TheConstants.{SMALL_BACKEND_LIMIT};
 
 use pgw_types::context::DecodeContext;
 use pgw_types::error::{PgWireError, PgWireResult};
@@ -10,6 +11,7 @@ use pgw_types::listed::Duplicate;
 use pgw_types::memory::OutOfMemory;
 use pgw_types::octets::Octets;
 use pgw_wire::framing::Framing;
+use pgw_wire::limits::SMALL_BACKEND_LIMIT;
 use pgw_wire::message::Message;
 use pgw_wire::reader::FieldReader;
 use pgw_wire::secret_key::SecretKey;
@@ -36,7 +38,7 @@ impl BackendKeyData {
 impl Message for BackendKeyData {
     ghost row_framing = { Typed 75 };
 
-    ghost limit = { 30000 };
+    ghost limit = { SMALL_BACKEND_LIMIT };
 
     ghost reading = { backend_key_data_of };
 
@@ -49,7 +51,7 @@ impl Message for BackendKeyData {
     }
 
     fn max_message_length() -> usize {
-        30000
+        SMALL_BACKEND_LIMIT
     }
 
     #[tactic(auto, unfolding(pgw_wire::specs::Writing::i32))]

@@ -8,6 +8,7 @@ ghost use Rattle.pgw_wire.specs.Formats.{counted_at};
 ghost use Rattle.pgw_wire.specs.Writing.{has_zero as holds_zero, refused_if};
 ghost use Rattle.pgw_startup.specs.Login.{negotiate_of, negotiate, is_options_refused};
 ghost use Rattle.pgw_startup.specs.Negotiate.{known_version as version_known, negotiated_version as version_offered};
+ghost use Rattle.pgw_wire.specs.declared.limits.TheConstants.{SMALL_BACKEND_LIMIT};
 
 use pgw_types::context::{DecodeContext, ProtocolVersion};
 use pgw_types::error::{PgWireError, PgWireResult};
@@ -17,6 +18,7 @@ use pgw_types::octets::Octets;
 use pgw_types::text::Text;
 use pgw_wire::field::{list_len, put_list, take_list, unsigned_count};
 use pgw_wire::framing::Framing;
+use pgw_wire::limits::SMALL_BACKEND_LIMIT;
 use pgw_wire::message::Message;
 use pgw_wire::reader::FieldReader;
 use pgw_wire::writer::{Writer, has_zero, put_i32, put_u32, refused_if};
@@ -71,7 +73,7 @@ fn take_options(alloc: Global, reader: &mut FieldReader<'_>) -> PgWireResult<Lis
 impl Message for NegotiateProtocolVersion {
     ghost row_framing = { Typed 118 };
 
-    ghost limit = { 30000 };
+    ghost limit = { SMALL_BACKEND_LIMIT };
 
     ghost reading = { negotiate_of };
 
@@ -84,7 +86,7 @@ impl Message for NegotiateProtocolVersion {
     }
 
     fn max_message_length() -> usize {
-        30000
+        SMALL_BACKEND_LIMIT
     }
 
     #[tactic(auto, unfolding(pgw_wire::specs::Writing::i32, pgw_wire::specs::Writing::u32))]

@@ -2,6 +2,7 @@
 ghost use Rattle.std.specs.Prelude.{◌≡◌, ◌∷◌, [], ◌++◌, ◌||◌};
 ghost use Rattle.pgw_wire.specs.declared.framing.Framing.TheVariants.{Typed};
 ghost use Rattle.pgw_startup.specs.Login.{parameter_status_of, parameter_status, parameter_status_fault};
+ghost use Rattle.pgw_wire.specs.declared.limits.TheConstants.{SMALL_BACKEND_LIMIT};
 
 use pgw_types::context::DecodeContext;
 use pgw_types::error::{PgWireError, PgWireResult};
@@ -10,6 +11,7 @@ use pgw_types::memory::OutOfMemory;
 use pgw_types::octets::Octets;
 use pgw_types::text::Text;
 use pgw_wire::framing::Framing;
+use pgw_wire::limits::SMALL_BACKEND_LIMIT;
 use pgw_wire::message::Message;
 use pgw_wire::reader::FieldReader;
 use pgw_wire::writer::{Writer, has_zero, put_text, refused_if};
@@ -35,7 +37,7 @@ impl ParameterStatus {
 impl Message for ParameterStatus {
     ghost row_framing = { Typed 83 };
 
-    ghost limit = { 30000 };
+    ghost limit = { SMALL_BACKEND_LIMIT };
 
     ghost reading = { parameter_status_of };
 
@@ -48,7 +50,7 @@ impl Message for ParameterStatus {
     }
 
     fn max_message_length() -> usize {
-        30000
+        SMALL_BACKEND_LIMIT
     }
 
     #[tactic(auto, unfolding(pgw_wire::specs::Writing::text))]

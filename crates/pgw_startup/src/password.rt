@@ -4,6 +4,7 @@ ghost use Rattle.pgw_wire.specs.declared.framing.Framing.TheVariants.{Typed};
 ghost use Rattle.pgw_wire.specs.Reading.{Gives};
 ghost use Rattle.pgw_wire.specs.Writing.{text, has_zero as holds_zero, refused_if};
 ghost use Rattle.pgw_startup.specs.Password.{password_payload, family_of, password_body, password_fault, as_password, as_initial_response, as_response};
+ghost use Rattle.pgw_wire.specs.declared.limits.TheConstants.{SMALL_LIMIT};
 
 use crate::sasl::{SASLInitialResponse, SASLResponse, read_initial_response, read_response};
 use pgw_types::context::DecodeContext;
@@ -13,6 +14,7 @@ use pgw_types::memory::OutOfMemory;
 use pgw_types::octets::Octets;
 use pgw_types::text::Text;
 use pgw_wire::framing::Framing;
+use pgw_wire::limits::SMALL_LIMIT;
 use pgw_wire::message::Message;
 use pgw_wire::reader::FieldReader;
 use pgw_wire::writer::{Writer, has_zero, put_text, refused_if};
@@ -55,7 +57,7 @@ fn read_password(alloc: Global, body: &Octets) -> PgWireResult<Password>
 impl Message for Password {
     ghost row_framing = { Typed 112 };
 
-    ghost limit = { 10000 };
+    ghost limit = { SMALL_LIMIT };
 
     ghost reading = { λ ctx. password_payload };
 
@@ -68,7 +70,7 @@ impl Message for Password {
     }
 
     fn max_message_length() -> usize {
-        10000
+        SMALL_LIMIT
     }
 
     #[tactic(auto, unfolding(pgw_wire::specs::Writing::text))]
@@ -149,7 +151,7 @@ impl PasswordMessageFamily {
 impl Message for PasswordMessageFamily {
     ghost row_framing = { Typed 112 };
 
-    ghost limit = { 10000 };
+    ghost limit = { SMALL_LIMIT };
 
     ghost reading = { family_of };
 
@@ -162,7 +164,7 @@ impl Message for PasswordMessageFamily {
     }
 
     fn max_message_length() -> usize {
-        10000
+        SMALL_LIMIT
     }
 
     fn message_length(&self) -> usize {

@@ -2,6 +2,7 @@
 ghost use Rattle.std.specs.Prelude.{◌≡◌, ◌∷◌, [], None};
 ghost use Rattle.pgw_wire.specs.declared.framing.Framing.TheVariants.{OneByte};
 ghost use Rattle.pgw_startup.specs.Response.{ssl_response_of, gss_enc_response_of, ssl_byte, gss_byte};
+ghost use Rattle.pgw_wire.specs.declared.limits.TheConstants.{SMALL_LIMIT};
 
 use pgw_types::context::DecodeContext;
 use pgw_types::error::{PgWireError, PgWireResult};
@@ -9,6 +10,7 @@ use pgw_types::listed::Duplicate;
 use pgw_types::memory::OutOfMemory;
 use pgw_types::octets::Octets;
 use pgw_wire::framing::Framing;
+use pgw_wire::limits::SMALL_LIMIT;
 use pgw_wire::message::Message;
 use pgw_wire::reader::FieldReader;
 use pgw_wire::writer::Writer;
@@ -33,7 +35,7 @@ impl SslResponse {
 impl Message for SslResponse {
     ghost row_framing = { OneByte };
 
-    ghost limit = { 10000 };
+    ghost limit = { SMALL_LIMIT };
 
     ghost reading = { ssl_response_of };
 
@@ -46,7 +48,7 @@ impl Message for SslResponse {
     }
 
     fn max_message_length() -> usize {
-        10000
+        SMALL_LIMIT
     }
 
     fn message_length(&self) -> usize {
@@ -108,7 +110,7 @@ impl GssEncResponse {
 impl Message for GssEncResponse {
     ghost row_framing = { OneByte };
 
-    ghost limit = { 10000 };
+    ghost limit = { SMALL_LIMIT };
 
     ghost reading = { gss_enc_response_of };
 
@@ -121,7 +123,7 @@ impl Message for GssEncResponse {
     }
 
     fn max_message_length() -> usize {
-        10000
+        SMALL_LIMIT
     }
 
     fn message_length(&self) -> usize {

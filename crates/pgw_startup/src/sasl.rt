@@ -5,6 +5,7 @@ ghost use Rattle.pgw_wire.specs.Reading.{Gives, Reads};
 ghost use Rattle.pgw_wire.specs.Writing.{text, refused_if};
 ghost use Rattle.pgw_startup.specs.Login.{is_method_refused};
 ghost use Rattle.pgw_startup.specs.Password.{data_at, data_written, initial_response_of, initial_response, sasl_response_in};
+ghost use Rattle.pgw_wire.specs.declared.limits.TheConstants.{SMALL_LIMIT};
 
 use crate::authentication::is_refused_method;
 use crate::password::MESSAGE_TYPE_BYTE_PASSWORD_MESSAGE_FAMILY;
@@ -15,6 +16,7 @@ use pgw_types::memory::OutOfMemory;
 use pgw_types::octets::Octets;
 use pgw_types::text::Text;
 use pgw_wire::framing::Framing;
+use pgw_wire::limits::SMALL_LIMIT;
 use pgw_wire::message::Message;
 use pgw_wire::reader::FieldReader;
 use pgw_wire::writer::{Writer, put_i32, put_text, refused_if};
@@ -103,7 +105,7 @@ pub fn read_initial_response(alloc: Global, body: &Octets) -> PgWireResult<SASLI
 impl Message for SASLInitialResponse {
     ghost row_framing = { Typed 112 };
 
-    ghost limit = { 10000 };
+    ghost limit = { SMALL_LIMIT };
 
     ghost reading = { λ ctx. initial_response_of };
 
@@ -116,7 +118,7 @@ impl Message for SASLInitialResponse {
     }
 
     fn max_message_length() -> usize {
-        10000
+        SMALL_LIMIT
     }
 
     #[tactic(auto, unfolding(pgw_wire::specs::Writing::text))]
@@ -185,7 +187,7 @@ pub fn read_response(body: &Octets) -> PgWireResult<SASLResponse>
 impl Message for SASLResponse {
     ghost row_framing = { Typed 112 };
 
-    ghost limit = { 10000 };
+    ghost limit = { SMALL_LIMIT };
 
     ghost reading = { λ ctx. sasl_response_in };
 
@@ -198,7 +200,7 @@ impl Message for SASLResponse {
     }
 
     fn max_message_length() -> usize {
-        10000
+        SMALL_LIMIT
     }
 
     fn message_length(&self) -> usize {

@@ -6,6 +6,7 @@ ghost use Rattle.pgw_wire.specs.Pairs.{from_pairs};
 ghost use Rattle.pgw_wire.specs.Writing.{refused_if};
 ghost use Rattle.pgw_wire.specs.declared.framing.Framing.TheVariants.{Untyped};
 ghost use Rattle.pgw_startup.specs.Startup.{startup_of, startup, is_startup_refused};
+ghost use Rattle.pgw_wire.specs.declared.limits.TheConstants.{SMALL_LIMIT};
 
 use pgw_types::context::DecodeContext;
 use pgw_types::error::{PgWireError, PgWireResult};
@@ -15,6 +16,7 @@ use pgw_types::octets::Octets;
 use pgw_types::text::Text;
 use pgw_wire::framing::Framing;
 use pgw_wire::item::take_up_to_mark;
+use pgw_wire::limits::SMALL_LIMIT;
 use pgw_wire::message::Message;
 use pgw_wire::params::Params;
 use pgw_wire::reader::FieldReader;
@@ -77,7 +79,7 @@ fn is_refused(m: &Startup) -> bool
 impl Message for Startup {
     ghost row_framing = { Untyped };
 
-    ghost limit = { 10000 };
+    ghost limit = { SMALL_LIMIT };
 
     ghost reading = { startup_of };
 
@@ -90,7 +92,7 @@ impl Message for Startup {
     }
 
     fn max_message_length() -> usize {
-        10000
+        SMALL_LIMIT
     }
 
     #[tactic(auto, unfolding(pgw_wire::specs::Writing::u16))]
