@@ -9,5 +9,4 @@
 pub mod ask;
 pub mod push;
 
-pub use crate::ask::ask;
 pub use crate::push::over_pieces;

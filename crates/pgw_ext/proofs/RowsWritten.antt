@@ -17,8 +17,8 @@ use Rattle.pgw_wire.proofs.WrittenLaws.{text_written, int_written, nat_written, 
 use Rattle.pgw_ext.specs.declared.parse.Parse.{Parse}
 use Rattle.pgw_ext.specs.declared.bind.Bind.{Bind}
 use Rattle.pgw_ext.specs.declared.execute.Execute.{Execute}
-use Rattle.pgw_ext.specs.Kinds.{name, is_name_refused, parameter}
-use Rattle.pgw_wire.specs.Values.{SpellsNullable}
+use Rattle.pgw_ext.specs.Kinds.{name, is_name_refused}
+use Rattle.pgw_wire.specs.Values.{SpellsNullable, nullable}
 use Rattle.pgw_wire.specs.Counted.{counted16, SpellsCounted16, is_too_long}
 use Rattle.pgw_wire.proofs.CountedLaws.{count16_written, counted16_written}
 use Rattle.pgw_ext.specs.Rows.{parse, is_parse_refused, SpellsParse, bind, is_bind_refused, SpellsBind, SpellsTarget, SpellsExecute}
@@ -52,8 +52,8 @@ len_written n small =
 minus_one : FitsSigned w32 (negsuc 0)
 minus_one = omega (arith, ints)
 
-parameter_written : (o : Option (List ℕ)) → length (parameter o) < 2 ^ 31 → SpellsNullable o (parameter o)
-unfolding parameter
+parameter_written : (o : Option (List ℕ)) → length (nullable o) < 2 ^ 31 → SpellsNullable o (nullable o)
+unfolding nullable
 parameter_written None small = (0, rows_written (negsuc 0) minus_one)
 parameter_written (Some value) small = (
   u32 (length value),
@@ -62,16 +62,16 @@ parameter_written (Some value) small = (
       (omega (arith, length-append (u32 (length value)) value, small)),
 )
 
-parameters_written : (vs : List (Option (List ℕ))) → length (flat_map parameter vs) < 2 ^ 31
-    → SpellsMany SpellsNullable vs (flat_map parameter vs)
+parameters_written : (vs : List (Option (List ℕ))) → length (flat_map nullable vs) < 2 ^ 31
+    → SpellsMany SpellsNullable vs (flat_map nullable vs)
 parameters_written [] small = refl
 parameters_written (v ∷ vs) small =
-    let cut = flat_map-cons parameter v vs in
-    let one : length (parameter v) < 2 ^ 31 =
-    omega (arith, ap length cut, length-append (parameter v) (flat_map parameter vs), small) in
-    let others : length (flat_map parameter vs) < 2 ^ 31 =
-    omega (arith, ap length cut, length-append (parameter v) (flat_map parameter vs), small) in
-    (parameter v, flat_map parameter vs, cut, parameter_written v one, parameters_written vs others)
+    let cut = flat_map-cons nullable v vs in
+    let one : length (nullable v) < 2 ^ 31 =
+    omega (arith, ap length cut, length-append (nullable v) (flat_map nullable vs), small) in
+    let others : length (flat_map nullable vs) < 2 ^ 31 =
+    omega (arith, ap length cut, length-append (nullable v) (flat_map nullable vs), small) in
+    (nullable v, flat_map nullable vs, cut, parameter_written v one, parameters_written vs others)
 
 -- ---- bodies
 
@@ -83,15 +83,15 @@ codes_written : (zs : List ℤ) → AllByRecursion IsCode zs → is_too_long zs 
     → SpellsCounted16 (SpellsInt w16) zs (counted16 i16 zs)
 codes_written = counted16_written (SpellsInt w16) i16 IsCode code_written
 
-values_written : (vs : List (Option (List ℕ))) → length (counted16 parameter vs) < 2 ^ 31 → is_too_long vs ≡ false
-    → SpellsCounted16 SpellsNullable vs (counted16 parameter vs)
+values_written : (vs : List (Option (List ℕ))) → length (counted16 nullable vs) < 2 ^ 31 → is_too_long vs ≡ false
+    → SpellsCounted16 SpellsNullable vs (counted16 nullable vs)
 values_written vs small few = (
   u16 (length vs),
-  flat_map parameter vs,
+  flat_map nullable vs,
   refl,
   count16_written (length vs) few,
   parameters_written vs
-      (omega (arith, length-append (u16 (length vs)) (flat_map parameter vs), small)),
+      (omega (arith, length-append (u16 (length vs)) (flat_map nullable vs), small)),
 )
 
 pub parse_written : (m : Parse) → IsParse m → refused_if (is_parse_refused m) ≡ None → SpellsParse m (parse m)
@@ -125,26 +125,26 @@ bind_written m sound small fine =
     let s = or_parts (is_too_long m.parameters) (is_too_long m.result_column_format_codes) r.1 in
     let few =
     middle (name m.portal_name) (name m.statement_name) (counted16 i16 m.parameter_format_codes)
-    (counted16 parameter m.parameters) (counted16 i16 m.result_column_format_codes) small in (
+    (counted16 nullable m.parameters) (counted16 i16 m.result_column_format_codes) small in (
       name m.portal_name,
       name m.statement_name ++
           (counted16 i16 m.parameter_format_codes ++
-          (counted16 parameter m.parameters ++ counted16 i16 m.result_column_format_codes)),
+          (counted16 nullable m.parameters ++ counted16 i16 m.result_column_format_codes)),
       simp append_assoc,
       name_written m.portal_name sound.0 q.0,
       (
         name m.statement_name,
         counted16 i16 m.parameter_format_codes ++
-            (counted16 parameter m.parameters ++ counted16 i16 m.result_column_format_codes),
+            (counted16 nullable m.parameters ++ counted16 i16 m.result_column_format_codes),
         refl,
         name_written m.statement_name sound.1 q.1,
         (
           counted16 i16 m.parameter_format_codes,
-          counted16 parameter m.parameters ++ counted16 i16 m.result_column_format_codes,
+          counted16 nullable m.parameters ++ counted16 i16 m.result_column_format_codes,
           refl,
           codes_written m.parameter_format_codes sound.2 r.0,
           (
-            counted16 parameter m.parameters,
+            counted16 nullable m.parameters,
             counted16 i16 m.result_column_format_codes,
             refl,
             values_written

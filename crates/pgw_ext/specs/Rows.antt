@@ -7,8 +7,8 @@ use Rattle.pgw_wire.specs.Reading.{nat_at, int_at, text_at, name_at, all_of}
 use Rattle.pgw_wire.specs.Formats.{pair_at, Pair, made_at, SpellsText, SpellsNat, SpellsInt, SpellsName}
 use Rattle.pgw_wire.specs.Writing.{text, i16, u32, has_zero}
 use Rattle.pgw_wire.specs.Counted.{counted16_at, SpellsCounted16, counted16, is_too_long}
-use Rattle.pgw_ext.specs.Kinds.{name, is_name_refused, parameter}
-use Rattle.pgw_wire.specs.Values.{nullable_at, SpellsNullable}
+use Rattle.pgw_ext.specs.Kinds.{name, is_name_refused}
+use Rattle.pgw_wire.specs.Values.{nullable_at, SpellsNullable, nullable}
 use Rattle.pgw_ext.specs.declared.parse.Parse.{Parse}
 use Rattle.pgw_ext.specs.declared.parse.ParseComplete.{ParseComplete}
 use Rattle.pgw_ext.specs.declared.bind.Bind.{Bind}
@@ -87,7 +87,7 @@ SpellsBind m =
 abbrev pub bind : Bind → List ℕ
 bind m =
     name m.portal_name ++ name m.statement_name ++ counted16 i16 m.parameter_format_codes ++
-    counted16 parameter m.parameters ++ counted16 i16 m.result_column_format_codes
+    counted16 nullable m.parameters ++ counted16 i16 m.result_column_format_codes
 
 abbrev pub is_bind_refused : Bind → Bool
 is_bind_refused m =

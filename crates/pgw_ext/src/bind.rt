@@ -12,7 +12,6 @@ ghost use Rattle.pgw_wire.specs.Counted.{is_too_long, counted16_at};
 ghost use Rattle.pgw_wire.specs.declared.limits.TheConstants.{LARGE_LIMIT, SMALL_BACKEND_LIMIT};
 
 use crate::kinds::{is_name_refused, name_len, put_name};
-use crate::parameter::{parameters_len, put_parameters, take_parameters};
 use pgw_types::context::DecodeContext;
 use pgw_types::error::{PgWireError, PgWireResult};
 use pgw_types::listed::{Duplicate, Listed};
@@ -101,7 +100,7 @@ fn take_values(
         (pair_at (counted16_at 4 nullable_at) (counted16_at 2 (int_at w16))) reader.old) }
 {
     let parameter_formats = take_counted16(alloc, reader, 2)?;
-    let parameters = take_parameters(alloc, reader)?;
+    let parameters = take_counted16(alloc, reader, 4)?;
     let result_formats = take_counted16(alloc, reader, 2)?;
     Ok((parameter_formats, (parameters, result_formats)))
 }
@@ -129,7 +128,7 @@ impl Message for Bind {
     fn message_length(&self) -> usize {
         let len = name_len(&self.portal_name, name_len(&self.statement_name, 10));
         let len = list_len(self.parameter_format_codes.as_slice(), len);
-        let len = parameters_len(self.parameters.as_slice(), len);
+        let len = list_len(self.parameters.as_slice(), len);
         list_len(self.result_column_format_codes.as_slice(), len)
     }
 
@@ -141,7 +140,7 @@ impl Message for Bind {
         put_name(out, &self.portal_name)?;
         put_name(out, &self.statement_name)?;
         put_counted16(out, self.parameter_format_codes.as_slice())?;
-        put_parameters(out, self.parameters.as_slice())?;
+        put_counted16(out, self.parameters.as_slice())?;
         put_counted16(out, self.result_column_format_codes.as_slice())
     }
 

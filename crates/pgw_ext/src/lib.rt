@@ -11,6 +11,5 @@ pub mod extendedquery;
 mod flush;
 mod kinds;
 pub mod laws;
-mod parameter;
 mod parse;
 mod target;

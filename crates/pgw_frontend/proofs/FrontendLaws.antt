@@ -120,7 +120,8 @@ module _ (ctx : DecodeContext) (m : PgWireFrontendMessage) (bytes rest : List �
                                                                           | inr h ↦
                                                                               elim (chosen (eqb b 102) _ _ _ h.1) [
                                                                                 | inl h ↦
-                                                                                    one_found frontend.CopyFail 102 10000
+                                                                                    one_found frontend.CopyFail 102
+                                                                                    10000
                                                                                     (copy_fail_of ctx)
                                                                                     SpellsCopyFail (copy_fail ctx)
                                                                                     (λ x g s. s) b first h.0 h.1

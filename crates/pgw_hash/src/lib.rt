@@ -14,5 +14,4 @@ pub mod xor;
 pub use crate::hmac::{Hmac, hmac_sha256};
 pub use crate::md5_password::hash_md5_password;
 pub use crate::pbkdf2::{gen_salted_password, hi};
-pub use crate::saslprep::saslprep;
 pub use crate::xor::xor_into;

@@ -27,7 +27,7 @@ pub use crate::client_info::{
     ClientInfo, DEFAULT_NAME, DefaultClient, METADATA_APPLICATION_NAME, METADATA_CLIENT_ENCODING,
     METADATA_DATABASE, METADATA_USER, PgWireConnectionState,
 };
-pub use crate::finish::{accept, draw, enroll, finish, finish_authentication, introduce, ready};
+pub use crate::finish::{accept, draw, enroll, finish_authentication, introduce, ready};
 pub use crate::handler::{Heard, StartupHandler};
 pub use crate::md5::Md5PasswordAuthStartupHandler;
 pub use crate::negotiation::{

@@ -14,7 +14,6 @@ pub mod stored;
 pub mod turn;
 pub mod validator;
 
-pub use crate::error_text::error_text;
 pub use crate::handler::SASLAuthStartupHandler;
 pub use crate::methods::{
     Method, OAUTHBEARER_METHOD, SCRAM_SHA_256_METHOD, SCRAM_SHA_256_PLUS_METHOD, unsupported,

@@ -25,6 +25,5 @@ pub mod start;
 mod told;
 mod transfer;
 
-pub use crate::gen_session::gen_session;
 pub use crate::program::{Stop, run_command_with, run_program, run_program_with};
-pub use crate::start::{run, start, start_with, words_of};
+pub use crate::start::{run, start_with, words_of};

@@ -9,5 +9,4 @@ pub mod laws;
 pub mod stream;
 pub mod summary;
 
-pub use crate::stream::stream;
 pub use crate::summary::{GenSummary, TooManyRows, summary_of};

@@ -22,5 +22,5 @@ pub use crate::layout::{Row, lay_out, names};
 pub use crate::pieces::{put, put_times};
 pub use crate::printer::{RowFormat, RowPrinter};
 pub use crate::sample::{SAMPLE, Sample};
-pub use crate::shown::{plain, shown};
+pub use crate::shown::plain;
 pub use crate::table_lines::{MOST_WIDTH, Side, TableColumn, put_rule, put_table_line, widen};

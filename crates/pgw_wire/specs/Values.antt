@@ -4,6 +4,7 @@ use Rattle.std.specs.Int.{w32}
 use Rattle.pgw_types.specs.declared.error.PgWireError.{PgWireError}
 use Rattle.pgw_wire.specs.Reading.{◌>>=◌, int_at, octets_at}
 use Rattle.pgw_wire.specs.Formats.{made_at, SpellsInt}
+use Rattle.pgw_wire.specs.Writing.{i32, u32}
 
 -- so many bytes; a negative number of them is NULL
 abbrev pub octets_or_null : ℤ → List ℕ → Result (Option (List ℕ) × List ℕ) PgWireError
@@ -14,6 +15,11 @@ unfoldable pub nullable_at : List ℕ → Result (Option (List ℕ) × List ℕ)
 nullable_at bytes = do
   len ← int_at w32 bytes
   octets_or_null len.0 len.1
+
+-- NULL is written as the length -1; a length that is too great for 32 bits stands in no message
+unfoldable pub nullable : Option (List ℕ) → List ℕ
+nullable None = i32 (negsuc 0)
+nullable (Some value) = u32 (length value) ++ value
 
 -- a length and as many bytes, or any negative length for NULL
 abbrev pub SpellsNullable : Option (List ℕ) → List ℕ → Type 0
