@@ -1,4 +1,5 @@
-//! Tests of a server's side of a login, message by message, that need its public calls alone.
+//! Tests of a server's side of a login, message by message, that need its public calls alone: of each handler, and of logins by
+//! SASL.
 #![tactic(auto)]
 
 #[cfg(test)]
@@ -10,8 +11,12 @@ mod holding;
 #[cfg(test)]
 mod registered;
 #[cfg(test)]
+mod sasl;
+#[cfg(test)]
 mod server_handlers;
 #[cfg(test)]
 mod support;
 #[cfg(test)]
 mod values;
+#[cfg(test)]
+mod words;

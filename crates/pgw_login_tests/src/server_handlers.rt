@@ -2,7 +2,8 @@
 ghost use Rattle.std.specs.Prelude.{pos, ◌≤ℤ◌};
 
 use crate::handlers::WELCOMED;
-use crate::support::{OnePassword, Outcome, Silent, Step, compare, outcome_of, words_of};
+use crate::support::{OnePassword, Outcome, Silent, Step, compare, outcome_of};
+use crate::words::words_of;
 use pgw_control::cancel::CancelRequest;
 use pgw_login::cancel::{CancelHandler, ErrorHandler, PgWireServerHandlers};
 use pgw_login::cleartext::CleartextPasswordAuthStartupHandler;

@@ -2,6 +2,7 @@
 ghost use Rattle.std.specs.Prelude.{◌≡◌, None};
 ghost use Rattle.pgw_login.specs.declared.state.LoginState.{LoginState as TheState};
 
+use crate::words::words_of;
 use bytes::BytesMut;
 use pgw_control::terminate::Terminate;
 use pgw_frontend::frontend::PgWireFrontendMessage;
@@ -255,20 +256,4 @@ pub fn compare<R: Abort>(rt: &R, outcome: Outcome, word: &str, sent: &[u8]) {
     assert_eq!(rt; outcome.word.as_str(), word);
     assert_eq!(rt; outcome.sent.as_slice(), sent);
     drop(outcome);
-}
-
-/// What was refused.
-pub fn words_of(answer: &PgWireResult<()>) -> &str {
-    match answer {
-        Ok(()) => "ok",
-        Err(PgWireError::InvalidSASLState) => "InvalidSASLState",
-        Err(PgWireError::SaltRequired) => "SaltRequired",
-        Err(PgWireError::UserNameRequired) => "UserNameRequired",
-        Err(PgWireError::PidsExhausted) => "PidsExhausted",
-        Err(PgWireError::InvalidMessageBody) => "InvalidMessageBody",
-        Err(PgWireError::FailedToCoercePasswordMessage) => "FailedToCoercePasswordMessage",
-        Err(PgWireError::UnsupportedProtocolVersion(_, _)) => "UnsupportedProtocolVersion",
-        Err(PgWireError::InvalidPassword(user)) => user.as_str(),
-        Err(_) => "another error",
-    }
 }

@@ -1,5 +1,5 @@
 //! SCRAM-SHA-256. Texts and digests were computed with Python's hashlib by the formulas of RFC 5802.
-use crate::tests::shared::{
+use crate::sasl::shared::{
     Case, OneSecret, Outcome, Silent, Step, TwoPasswords, compare, outcome_of, scram,
 };
 use pgw_login_sasl::handler::SASLAuthStartupHandler;

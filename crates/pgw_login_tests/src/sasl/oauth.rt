@@ -1,5 +1,5 @@
 //! OAUTHBEARER.
-use crate::tests::shared::{Case, Outcome, Silent, Step, TwoPasswords, compare, outcome_of, scram};
+use crate::sasl::shared::{Case, Outcome, Silent, Step, TwoPasswords, compare, outcome_of, scram};
 use pgw_login_sasl::handler::SASLAuthStartupHandler;
 use pgw_login_sasl::oauth::Oauth;
 use pgw_login_sasl::validator::{OauthValidator, ValidatorModuleResult};

@@ -2,6 +2,8 @@
 ghost use Rattle.std.specs.Prelude.{◌≡◌, None};
 ghost use Rattle.pgw_login.specs.declared.state.LoginState.{LoginState as TheState};
 
+use crate::support::let_go;
+use crate::words::words_of;
 use bytes::BytesMut;
 use pgw_frontend::frontend::PgWireFrontendMessage;
 use pgw_hash::pbkdf2::gen_salted_password;
@@ -18,7 +20,7 @@ use pgw_secrets::secret::StoredSecret;
 use pgw_startup::password::{Password, PasswordMessageFamily};
 use pgw_startup::sasl::{SASLInitialResponse, SASLResponse};
 use pgw_startup::startup::Startup;
-use pgw_types::error::{OauthFault, OauthRefusal, PgWireError, PgWireResult, ScramMessageFault};
+use pgw_types::error::{PgWireError, PgWireResult};
 use pgw_types::memory::OutOfMemory;
 use pgw_types::octets::Octets;
 use pgw_types::text::Text;
@@ -267,23 +269,6 @@ pub fn outcome_of<H: StartupHandler, R: Abort>(
     }
 }
 
-// Lets a login go that was registered nowhere.
-fn let_go<R: Abort>(rt: &R, state: LoginState) {
-    let (_seat, pass, handle, guard) = state.finish();
-    match pass {
-        None => {}
-        Some(_pass) => panic!(rt; "registered"),
-    }
-    match handle {
-        None => {}
-        Some(_handle) => panic!(rt; "registered"),
-    }
-    match guard {
-        None => {}
-        Some(_guard) => panic!(rt; "registered"),
-    }
-}
-
 fn joined(alloc: Global, parts: &[&[u8]]) -> Result<Vec<u8>, OutOfMemory> {
     let mut all = Vec::new(alloc);
     for part in parts {
@@ -318,56 +303,4 @@ pub fn compare<R: Abort>(
     let compared = compare_all(rt, alloc, &outcome, words, sent, number);
     drop(outcome);
     compared
-}
-
-fn oauth_words(fault: &OauthFault) -> &'static str {
-    match fault {
-        OauthFault::Flag => "Flag",
-        OauthFault::ChannelBinding => "ChannelBinding",
-        OauthFault::AuthzId => "AuthzId",
-        OauthFault::Separator => "Separator",
-        OauthFault::Pair => "Pair",
-        OauthFault::Key => "Key",
-        OauthFault::Value => "Value",
-        OauthFault::TwiceAuth => "TwiceAuth",
-        OauthFault::NotOneByte => "NotOneByte",
-    }
-}
-
-fn refusal_words(why: &OauthRefusal) -> &'static str {
-    match why {
-        OauthRefusal::Malformed => "Malformed",
-        OauthRefusal::Refused => "Refused",
-        OauthRefusal::Ended => "Ended",
-    }
-}
-
-fn scram_words(fault: &ScramMessageFault) -> &'static str {
-    match fault {
-        ScramMessageFault::NotUtf8 => "NotUtf8",
-        ScramMessageFault::Grammar => "Grammar",
-        ScramMessageFault::Count => "Count",
-        ScramMessageFault::ChannelBinding => "ChannelBinding",
-        ScramMessageFault::Nonce => "Nonce",
-        ScramMessageFault::Empty => "Empty",
-        ScramMessageFault::Mechanism => "Mechanism",
-    }
-}
-
-// What was refused.
-fn words_of(answer: &PgWireResult<()>) -> &str {
-    match answer {
-        Ok(()) => "ok",
-        Err(PgWireError::InvalidSASLState) => "InvalidSASLState",
-        Err(PgWireError::FailedToCoercePasswordMessage) => "FailedToCoercePasswordMessage",
-        Err(PgWireError::SaltRequired) => "SaltRequired",
-        Err(PgWireError::UserNameRequired) => "UserNameRequired",
-        Err(PgWireError::InvalidScramMessage(fault)) => scram_words(fault),
-        Err(PgWireError::InvalidOauthMessage(fault)) => oauth_words(fault),
-        Err(PgWireError::OAuthAuthenticationFailed(why)) => refusal_words(why),
-        Err(PgWireError::OAuthValidationError(text)) => text.as_str(),
-        Err(PgWireError::UnsupportedSASLAuthMethod(method)) => method.as_str(),
-        Err(PgWireError::InvalidPassword(user)) => user.as_str(),
-        Err(_) => "another error",
-    }
 }

@@ -1,4 +1,0 @@
-//! Logins message by message.
-mod oauth;
-mod scram;
-mod shared;
