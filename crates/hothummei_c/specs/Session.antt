@@ -72,7 +72,7 @@ HandleAsks old new Bad request result =
     ⊎ (AddsNoRequest old Bad result × (new ≡ old))
     ⊎ ((result ≡ out_of_memory) × (new ≡ old))
 
--- The same of a request that takes the parameters that stand ready: behind it none does. Where memory was wanting they are
+-- as HandleAsks, of a request that takes the parameters that stand ready: behind it none does. Where memory was wanting they are
 -- gone too, and behind any other refusal they stand ready still.
 abbrev pub AsksWith : Session → Session → (ℕ → Type 0) → Request → ℕ → Type 0
 AsksWith old new Bad request result =

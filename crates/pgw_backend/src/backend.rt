@@ -84,7 +84,7 @@ impl PgWireBackendMessage {
         Self::decode_exact(alloc, buf, ctx)
     }
 
-    /// The same at the front of any buffer. What the message keeps of its bytes is a part of the buffer's: a cut of octets, which copies nothing and shares their block.
+    /// As `decode`, at the front of any buffer. What the message keeps of its bytes is a part of the buffer's: a cut of octets, which copies nothing and shares their block.
     pub fn decode_from<B: Buffer>(
         alloc: Global,
         buf: &mut B,
@@ -122,7 +122,7 @@ impl PgWireBackendMessage {
         Self::decode_typed(alloc, buf, ctx)
     }
 
-    // The same in the phase in which each message has a type byte.
+    // As `decode_exact`, in the phase in which each message has a type byte.
     fn decode_typed<B: Buffer>(
         alloc: Global,
         buf: &mut B,

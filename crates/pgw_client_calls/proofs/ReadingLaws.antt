@@ -381,7 +381,7 @@ caused_from client.IoError before now c = absurd (omega (arith, c))
 caused_from client.Broken before now c = absurd (let no : false ≡ true = c in cc)
 caused_from e before now c = tt
 
--- the same behind a look at the buffer, which took nothing
+-- as caused_from, behind a look at the buffer, which took nothing
 pub came_after : (c also : Client) (t : Tape) (faults : ℕ) (was now : List ℕ) (read limit : ℕ) (mid final : Line)
     (r : Result Backend ClientError)
     → now ≡ was → also ≡ c

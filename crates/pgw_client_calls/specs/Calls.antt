@@ -179,7 +179,7 @@ HeardNext M goes_on h c old new handler info broken (Ok (Ready x)) =
 HeardNext M goes_on h c old new handler info broken (Err e) =
     TalksToCallEnd M goes_on h c old new (end (Err e) info broken new.buffer)
 
--- the same behind some rows: the call goes on from there as it does from the beginning, or has ended
+-- as HeardNext, behind some rows: the call goes on from there as it does from the beginning, or has ended
 abbrev pub HeardOn : {H A : Type 0} → Hearing H A → (ClientError → Bool) → H → Client → Line
     → Line → H → Client → Bool → CallAnswer A → Type 0
 HeardOn {A = A} M goes_on h c old new handler info broken (Ok Pending) =

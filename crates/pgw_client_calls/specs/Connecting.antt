@@ -89,7 +89,7 @@ pub record ConnectedAt {S : Type 0}
   pub logs_in : LogsIn opens M handler (first_client config) (new_line first limit) now info
       (Ok tt)
 
--- the same at the address of the configuration
+-- as ConnectedAt, at the address of the configuration
 abbrev pub Connected : {S : Type 0}
     → (HandlerView S → HandlerView S → CallAnswer ServerInformation → Type 0)
     → Hearing S ServerInformation → S → Config → ℕ → DialTape → DialTape → Client → Line

@@ -32,7 +32,7 @@ pub data Heeded {H R : Type 0} (M : Meaning H R) (h : H) (c : Client) (g : Gathe
       → Heeded M h c g m after more (Err e)
   wants : Heeded M h c g m after more (Err client.OutOfMemory)
 
--- The same, and what it tells of the connection was noted.
+-- as Heeded, and what it tells of the connection was noted.
 pub data TookMessage {H R : Type 0} (M : Meaning H R) (h : H) (c : Client) (g : Gathered (List R))
     (m : Backend) (after : H) (info : Client) (more : Gathered (List R)) : Result (Unit {0})
     ClientError
@@ -156,7 +156,7 @@ HeededNext M k h c g old new handler info more broken (Ok (Ready suspended)) =
 HeededNext M k h c g old new handler info more broken (Err e) =
     LineExchange M k h c g old new (finish (Err e) handler info broken new.buffer)
 
--- the same behind some rows: the call goes on from there as it does from the beginning, or has ended
+-- as HeededNext, behind some rows: the call goes on from there as it does from the beginning, or has ended
 abbrev pub HeededOn : {H R : Type 0} → Meaning H R → Kind → H → Client → Gathered (List R) → Line
     → Line → H → Client → Gathered (List R) → Bool → CallAnswer Bool → Type 0
 HeededOn {H = H} {R = R} M k h c g old new handler info more broken (Ok Pending) =
@@ -197,7 +197,7 @@ abbrev pub gathered_as : {S A : Type 0} → (Gathered S → Bool → A)
 gathered_as give (Ok x) = Ok (give x.0 x.1)
 gathered_as give (Err e) = Err e
 
--- The same, for a call that makes its own answer of what was gathered, in which `listed` says what the responses are.
+-- as gathered_as, for a call that makes its own answer of what was gathered, in which `listed` says what the responses are.
 pub record AnswersGathered {H R S A : Type 0} (M : Meaning H R) (listed : S → List R)
     (q : Request)
     (give : Gathered S → Bool → A) (h : H) (c : Client) (old new : Line) (handler : H)

@@ -172,7 +172,7 @@ fn address_for(alloc: Global, config: &Config) -> PgWireClientResult<Address>
     }
 }
 
-// The same, and a piece to read by.
+// As `address_for`, and a piece to read by.
 fn place_for(alloc: Global, config: &Config) -> PgWireClientResult<(Address, Piece)>
     ensures leads { IfOk result (λ place. LeadsTo config.now place.0) }
     ensures refused { IfErr result (IsRefusedBy (refused_config config.now) config.now) }

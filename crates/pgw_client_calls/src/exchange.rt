@@ -360,7 +360,7 @@ impl<L: Link> Connection<L> {
         }
     }
 
-    // The same of a client that may be unusable.
+    // Asks a request of a client that may be unusable.
     #[tactic(auto, using(crate::proofs::ForetoldLaws::foretold_still))]
     pub(crate) fn ask_by<H: ExtendedQueryHandler>(
         &mut self,
@@ -391,7 +391,7 @@ impl<L: Link> Connection<L> {
         self.request(alloc, handler, request)
     }
 
-    // The same, and a request that memory may have been wanting for.
+    // Asks a request that memory may have been wanting for.
     #[tactic(auto, using(crate::proofs::ForetoldLaws::foretold_still))]
     pub(crate) fn ask<H: ExtendedQueryHandler>(
         &mut self,

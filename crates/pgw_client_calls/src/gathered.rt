@@ -158,7 +158,7 @@ fn heed<H: ExtendedQueryHandler>(
     }
 }
 
-// The same of a message that has a place, and notes what it tells. An error leaves the client broken.
+// Heeds a message that has a place, and notes what it tells. An error leaves the client broken.
 pub(crate) fn take<H: ExtendedQueryHandler>(
     alloc: Global,
     handler: &mut H,

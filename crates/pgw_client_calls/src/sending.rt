@@ -37,7 +37,7 @@ fn is_refusal(error: &PgWireClientError) -> bool
     matches!(error, PgWireClientError::PgWireError(_))
 }
 
-// The same, of a call that goes on behind errors at all.
+// As `passes`, of a call that goes on behind errors at all.
 fn goes_on_if(some: bool, error: &PgWireClientError) -> bool
     ensures { result ≡ goes_on_if some error.now }
 {
@@ -73,7 +73,7 @@ impl<L: Link> Connection<L> {
         }
     }
 
-    // The same, where there is something to write.
+    // As `write_out`, where there is something to write.
     #[tactic(auto, using(crate::proofs::ForetoldLaws::foretold_still))]
     pub(crate) fn put_out(&mut self) -> PgWireClientResult<()>
         ensures client { client_of self.new.desk ≡ client_of self.old.desk }

@@ -30,7 +30,7 @@ fn listen(alloc: Global, client: &mut Client, sql: &str) -> Result<String> {
     told(alloc, client.simple_query(alloc, Listener::new(alloc), sql))
 }
 
-// The same, by an extended query.
+// Listens, by an extended query.
 fn listen_extended(alloc: Global, client: &mut Client, sql: &str) -> Result<String> {
     let mut listener = Listener::new(alloc);
     let mut lent = client.extended_query(&mut listener);
@@ -63,7 +63,7 @@ fn other(alloc: Global, client: &mut Client, word: &str, rest: &str) -> Result<S
     }
 }
 
-// The same, or one by a handler that listens, or one that has to do with a parameter.
+// A call that asks nothing, or one by a handler that listens, or one that has to do with a parameter.
 fn quiet(alloc: Global, client: &mut Client, word: &str, rest: &str) -> Result<String> {
     match word {
         "set" => set(alloc, client, rest),

@@ -14,7 +14,7 @@ pub enum LoginKind {
     CleartextPassword,
     Md5Password,
     ScramSha256,
-    /// The same with channel binding among its methods.
+    /// SASL with channel binding among its methods.
     ScramSha256Plus,
     Other,
 }

@@ -205,7 +205,7 @@ fn shown_over(alloc: Global, case: &Case<'_>, link: &mut MemoryLink) -> PgWireCl
     }
 }
 
-// The same where at most so many bytes go at a time.
+// As `shown_over`, where at most so many bytes go at a time.
 fn shown_at(alloc: Global, case: &Case<'_>, cut: usize) -> PgWireClientResult<String>
     requires { 0 < cut }
 {

@@ -12,7 +12,7 @@ use std::test::Fail;
 pub const HONEST: &[u8] =
     b"R\0\0\0\x17\0\0\0\x0aSCRAM-SHA-256\0\0R\0\0\0\x4a\0\0\0\x0br=AAAAAAAAAAAAAAAAAAAAAAAAserver,s=W22ZaJ0SNY7soEsUEjb6gQ==,i=4096R\0\0\0\x36\0\0\0\x0cv=uHmpiQRcOxaoAlpl+3NqPqejwiGX+xLqz6G7nzX1oDE=R\0\0\0\x08\0\0\0\0Z\0\0\0\x05I";
 
-// The same with another signature.
+// What that server says with another signature.
 const FORGED: &[u8] =
     b"R\0\0\0\x17\0\0\0\x0aSCRAM-SHA-256\0\0R\0\0\0\x4a\0\0\0\x0br=AAAAAAAAAAAAAAAAAAAAAAAAserver,s=W22ZaJ0SNY7soEsUEjb6gQ==,i=4096R\0\0\0\x0e\0\0\0\x0cv=AAAAR\0\0\0\x08\0\0\0\0Z\0\0\0\x05I";
 
@@ -203,7 +203,7 @@ fn required_bindings(rt: HostRuntime) -> Result<(), Fail> {
     Ok(())
 }
 
-// The same with a hash and a password that is no text: what the server says, and how it ends. In order: a parameter and the
+// Where a login must be bound, with a hash and a password that is no text: what the server says, and how it ends. In order: a parameter and the
 // method that binds; and a password in clear text.
 const REQUIRED_OF_NO_TEXT: &[(&[u8], &str)] = &[
     (

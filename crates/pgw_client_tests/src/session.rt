@@ -359,7 +359,7 @@ fn sizes_of(
     Ok(sizes)
 }
 
-// The same of one simple query over the link.
+// The sizes of the rows of one simple query over the link.
 fn sizes_by(
     alloc: Global,
     link: &mut MemoryLink,
@@ -390,7 +390,7 @@ fn sizes_over(alloc: Global, link: &mut MemoryLink) -> Result<Vec<(usize, Option
     sizes
 }
 
-// The same where the link moves so many bytes at a time.
+// The sizes of the rows, where the link moves so many bytes at a time.
 fn sizes_in_pieces(
     alloc: Global,
     server: &[u8],

@@ -108,7 +108,7 @@ fn compare<R: Abort>(
     Ok(())
 }
 
-// The same where at most so many bytes go at a time.
+// As `compare`, where at most so many bytes go at a time.
 fn check<R: Abort>(
     rt: &R,
     alloc: Global,

@@ -74,7 +74,7 @@ impl PgWireMessageClientCodec {
         PgWireBackendMessage::decode(alloc, src, &self.decode_context)
     }
 
-    /// The same at the front of any buffer, as of octets, which a message keeps cuts of.
+    /// As `decode`, at the front of any buffer, such as octets, which a message keeps cuts of.
     pub fn decode_from<B: Buffer>(
         &mut self,
         alloc: Global,
@@ -107,7 +107,7 @@ impl PgWireMessageClientCodec {
         written
     }
 
-    // The same of a message that stays.
+    // As `encode`, of a message that stays.
     fn write(&mut self, item: &PgWireFrontendMessage, dst: &mut BytesMut) -> PgWireResult<()>
         ensures exact { Appends result dst.old.items dst.new.items (encoding item.now) }
         ensures phase { OnOk result (self.new ≡ phase_behind item.now self.old) }

@@ -69,7 +69,7 @@ fn set_time(field: &mut Option<u64>, text: &str) -> bool
     true
 }
 
-// The same of a time that there always is.
+// Sets a time that there always is, where the text is one.
 fn set_idle(field: &mut u64, text: &str) -> bool
     ensures { (with_it : ℕ → TheConfig) → with_value (signed_in text.now)
         (λ t. with_it (later_idle field.old t))

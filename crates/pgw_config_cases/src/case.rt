@@ -49,7 +49,7 @@ fn address_of(alloc: Global, config: &Config) -> Result<String> {
     }
 }
 
-/// The same with this directory of a Unix socket.
+/// Where it connects to, with this directory of a Unix socket.
 fn socket_in(alloc: Global, directory: &str) -> Result<String> {
     let mut config = Config::new(alloc);
     config.host_path(alloc, directory)?;

@@ -52,7 +52,7 @@ SpellsColumns p bytes =
     (p.1 ≡ pos (length p.2))
     × Pair (SpellsInt w8) (SpellsCounted w16 (SpellsInt w16)) (p.0, p.2) bytes
 
--- the same, as they are written
+-- as SpellsColumns, as they are written
 abbrev pub formats : ℤ → ℤ → List ℤ → List ℕ
 formats format columns codes = cast_unsigned w8 format ∷ (i16 columns ++ flat_map i16 codes)
 

@@ -47,7 +47,7 @@ first_own : (b : Bool) (e : ClientError) (rest : Option ClientError) → IsOwn e
 first_own true e rest own more = more
 first_own false e rest own more = own
 
--- the same of what a client of SCRAM refuses
+-- as first_own, of what a client of SCRAM refuses
 abbrev AreScram : Option ScramClientError → Type 0
 AreScram refusal = AreOwn (option_map of_scram refusal)
 

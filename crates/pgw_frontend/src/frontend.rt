@@ -95,7 +95,7 @@ impl PgWireFrontendMessage {
         decode_exact(alloc, buf, ctx)
     }
 
-    /// The same at the front of any buffer. What the message keeps of its bytes is a part of the buffer's: a cut of
+    /// As `decode`, at the front of any buffer. What the message keeps of its bytes is a part of the buffer's: a cut of
     /// octets, which copies nothing and shares their block.
     pub fn decode_from<B: Buffer>(
         alloc: Global,

@@ -16,7 +16,7 @@ pub record Client : Type 0 where
   pub protocol_version : ProtocolVersion
   pub transaction_status : TransactionStatus
 
--- the same, the bytes that it sent, how many of them were flushed, and whether an error has left it unusable
+-- as Client, the bytes that it sent, how many of them were flushed, and whether an error has left it unusable
 pub record Sight : Type 0 where
   pub client : Client
   pub wrote : List ℕ

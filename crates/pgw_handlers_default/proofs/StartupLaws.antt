@@ -39,7 +39,7 @@ both_caused : (a b : Option ClientError) → AreCaused a → AreCaused b → Are
 both_caused None b x y = y
 both_caused (Some e) b x y = x
 
--- the same of what a client of SCRAM refuses, whose every error has its own cause
+-- as both_caused, of what a client of SCRAM refuses, whose every error has its own cause
 always : (e : ScramClientError) → IsAlwaysCaused (of_scram e)
 always (scram.InvalidConfig key) = λ before now broken. tt
 always (scram.PgWireError why) = λ before now broken. tt

@@ -67,7 +67,7 @@ impl Hmac {
         code.finalize()
     }
 
-    /// The same of a text in two parts.
+    /// The code of a text in two parts.
     pub(crate) fn code_of_parts(&self, first: &[u8], second: &[u8]) -> [u8; 32]
         ensures { (key : List ℕ) → HasTaken key [] self.now → result
             ≡ hmac_sha256 key (first.now ++ second.now) }

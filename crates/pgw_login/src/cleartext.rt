@@ -204,7 +204,7 @@ where
 }
 
 impl<A, P, G: Drop, M> CleartextPasswordAuthStartupHandler<A, P, G, M> {
-    /// The same with another generator.
+    /// This handler with another generator.
     pub fn with_pid_secret_key_generator(self, generator: G) -> Self
         ensures { result ≡ record self { generator = generator } }
     {
@@ -224,7 +224,7 @@ impl<A, P, G: Drop, M> CleartextPasswordAuthStartupHandler<A, P, G, M> {
 }
 
 impl<A, P, G, M: Drop> CleartextPasswordAuthStartupHandler<A, P, G, M> {
-    /// The same, which registers its connections. A login then may wait for the registry's turn.
+    /// This handler, which registers its connections. A login then may wait for the registry's turn.
     pub fn with_connection_manager<R: Wait>(
         self,
         manager: Arc<ConnectionManager>,

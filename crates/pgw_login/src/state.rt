@@ -19,7 +19,7 @@ pub enum SASLState {
     Initial,
     ScramClientFirstReceived,
     ScramServerFirstSent(Boxed<ScramServerAuthWaitingForClientFinal>),
-    /// The same, of a stored secret.
+    /// The server's first message was sent, by a stored secret.
     StoredServerFirstSent(Boxed<StoredScramWaiting>),
     OauthStateInit,
     OauthStateError,

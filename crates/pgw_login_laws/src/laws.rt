@@ -57,7 +57,7 @@ where
     let _handler = handler;
 }
 
-/// The same over stored secrets: the source answered a secret for the user of the startup message, and the proof hashes to
+/// So over stored secrets: the source answered a secret for the user of the startup message, and the proof hashes to
 /// its StoredKey.
 pub fn sasl_lets_in_behind_a_stored_key<S, P, G, M>(
     handler: &SASLAuthStartupHandler<Secrets<S>, P, G, M>,

@@ -154,7 +154,7 @@ impl<H: StartupHandler + Drop> ServerSide<H> {
     }
 }
 
-// The same of a core.
+// Lets a core go that is registered nowhere.
 fn let_go<H: StartupHandler + Drop>(core: ServerCore<H>)
     requires { core.login.registered ≡ None }
 {

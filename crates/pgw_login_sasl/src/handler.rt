@@ -379,7 +379,7 @@ where
 }
 
 impl<A: Drop, P, G, M> SASLAuthStartupHandler<A, P, G, M> {
-    /// The same, which offers SCRAM.
+    /// This handler, which offers SCRAM.
     pub fn with_scram(self, scram: ScramAuth<A>) -> Self
         ensures { result ≡ record self { scram = Some scram } }
     {
@@ -401,7 +401,7 @@ impl<A: Drop, P, G, M> SASLAuthStartupHandler<A, P, G, M> {
 }
 
 impl<A, P, G, M> SASLAuthStartupHandler<A, P, G, M> {
-    /// The same, which offers OAUTHBEARER.
+    /// This handler, which offers OAUTHBEARER.
     pub fn with_oauth(self, oauth: Oauth) -> Self
         ensures { result ≡ record self { oauth = Some oauth } }
     {
@@ -423,7 +423,7 @@ impl<A, P, G, M> SASLAuthStartupHandler<A, P, G, M> {
 }
 
 impl<A, P, G: Drop, M> SASLAuthStartupHandler<A, P, G, M> {
-    /// The same with another generator.
+    /// This handler with another generator.
     pub fn with_pid_secret_key_generator(self, generator: G) -> Self
         ensures { result ≡ record self { generator = generator } }
     {
@@ -445,7 +445,7 @@ impl<A, P, G: Drop, M> SASLAuthStartupHandler<A, P, G, M> {
 }
 
 impl<A, P, G, M: Drop> SASLAuthStartupHandler<A, P, G, M> {
-    /// The same, which registers its connections. A login then may wait for the registry's turn.
+    /// This handler, which registers its connections. A login then may wait for the registry's turn.
     pub fn with_connection_manager<R: Wait>(
         self,
         manager: Arc<ConnectionManager>,

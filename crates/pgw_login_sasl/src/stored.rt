@@ -71,7 +71,7 @@ fn offered_by(
     server.offer(alloc, parts, nonce)
 }
 
-// The same, of the client's first message.
+// As `offered_by`, of the client's first message.
 fn offered_under(
     alloc: Global,
     server: &StoredScramAuth,

@@ -213,7 +213,7 @@ pub passed : (before stage_after : Standing) (sent : List Backend) → IsReady b
     → LoginStays before stage_after sent (Ok tt) → IsReady stage_after.client stage_after.login
 passed before stage_after sent is h = (ap (λ s. s.client.state) h.0 ∙ is.0, ap (λ s. s.login.started) h.0 ∙ is.1)
 
--- the same in words that other handlers can cite
+-- as passed, in words that other handlers can cite
 pub finishes_ready : (P : LoginClient → Option Held → Type 0)
     (R : Option Known → ℤ → SecretKey → Option Known → Result (Option HandlePair) RegistryError → Type 0)
     (before stage_after : Standing) (sent : List Backend) (answer : Answer)

@@ -52,7 +52,7 @@ client_front false bound version bytes =
     or_first_message version (frontend_front (phase true true version) bytes)
 client_front true bound version bytes = typed_within bound version bytes
 
--- the same as a machine reads it: a message with its length
+-- as client_front, as a machine reads it: a message with its length
 abbrev pub server_front : {M : Type 0} → List ℕ → Result (Option (M × List ℕ)) PgWireError
     → Front M PgWireError
 server_front bytes (Err e) = Bad e

@@ -53,7 +53,7 @@ abbrev pub server_answer_at : Course Stage ServerEnding → Result ServerPhase P
 server_answer_at (Waits stage out pending) = Ok (phase_at stage.client.state)
 server_answer_at (Over ending out) = cause_result ending.cause
 
--- the same, where a call has just led there, and its answer says so
+-- as server_answer_at, where a call has just led there, and its answer says so
 abbrev pub Arrives : {H : Type 0}
     → (Message → Standing → Standing → List Backend → Answer → Type 0) → Stage → ServerCore H
     → List ℕ → List ℕ → Result ServerPhase PgWireError → Type 0

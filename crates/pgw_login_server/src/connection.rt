@@ -71,7 +71,7 @@ impl<H: StartupHandler> ServerCore<H> {
         ServerCore::begin(alloc, handler, client, state, None)
     }
 
-    /// The same under a bound: until the client may ask, a message behind its startup message that says it has more bytes
+    /// As `start`, under a bound: until the client may ask, a message behind its startup message that says it has more bytes
     /// is refused with `MessageTooLarge`, by its header alone. (PostgreSQL takes 65535 bytes of a password or token at the
     /// most.) Messages up to the startup message have at most 10000 bytes.
     pub fn start_within(

@@ -92,7 +92,7 @@ fn agree<R: Abort>(
     Ok(())
 }
 
-// The same, however the client's bytes are cut.
+// As `agree`, however the client's bytes are cut.
 fn agree_by<R: Abort>(
     rt: &R,
     alloc: Global,

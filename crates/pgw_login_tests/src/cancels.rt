@@ -108,7 +108,7 @@ fn each_canceled<R: Wait>(
     [by_another_key, by_another_number, by_its_own]
 }
 
-// The same of a connection with the number 7 and the key 5.
+// What cancels a query of a connection with the number 7 and the key 5.
 fn outcomes<R: Wait>(
     rt: &R,
     alloc: Global,

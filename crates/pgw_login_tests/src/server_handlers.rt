@@ -38,7 +38,7 @@ fn cleartext_from<R: Abort>(rt: &R, alloc: Global, first: i32) -> Result<Outcome
     outcome_of(rt, alloc, &handler, seat, STEPS)
 }
 
-// The same under MD5.
+// A server that asks for an MD5 password, and draws from a generator that was set later.
 fn md5_from<R: Abort>(rt: &R, alloc: Global, first: i32) -> Result<Outcome, OutOfMemory>
     requires { pos 0 ≤ℤ first }
 {

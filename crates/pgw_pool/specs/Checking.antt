@@ -45,7 +45,7 @@ pub record ChecksFirst (idle rest : List View) (last : View) (fit : Result (Unit
   pub asked : IsAskedIn check old last answer
   pub by : fit ≡ fit_by answer last.client.transaction_status last.broken
 
--- The same with what each link has to come, which stays with its session. Over a link that knows it,
+-- as ChecksFirst, with what each link has to come, which stays with its session. Over a link that knows it,
 -- what the link gave for the check is the front of that, and where it answered its end, nothing was
 -- left. So no other cause is told than one that these bytes have, or a fault of the link's, or want
 -- of memory.

@@ -96,7 +96,7 @@ abbrev pub lefts_behind : List (Option (List ℕ)) → Option (List ℕ) → Ret
 lefts_behind lefts left Kept = lefts ++ left ∷ []
 lefts_behind lefts left (Dropped why) = lefts
 
--- The same over a link that knows what is to come: what it gave for the reset is the front of that,
+-- as lefts_behind, over a link that knows what is to come: what it gave for the reset is the front of that,
 -- and where it answered its end, nothing was left. So no other answer of the reset is the cause than
 -- one that these bytes have, or a fault of the link's, or want of memory.
 pub record GivesForetold (was : Option (List ℕ)) (old : View) (idle now : List View)

@@ -53,7 +53,7 @@ pub data ConnectAll (config : Config) (limit : ℕ) (old : Dials)
       ConnectAll config limit old nonces mid vs → PoolConnects config limit nonce mid new v →
       ConnectAll config limit old (nonces ++ nonce ∷ []) new (vs ++ v ∷ [])
 
--- The same by a dialer that knows its offers: each login is over the next of its links, its bytes are
+-- as ConnectAll, by a dialer that knows its offers: each login is over the next of its links, its bytes are
 -- the front of what that had to come, and this is what the links still have. The count of faults never
 -- falls.
 pub data ConnectForetold (config : Config) (limit : ℕ) (old : Dials)
@@ -83,7 +83,7 @@ Refills config limit nonce old new idle now =
     × IsIdleInPool 0 (new_history config nonce) v
     × (now ≡ idle ++ v ∷ [])
 
--- The same by a dialer that knows its offers.
+-- as Refills, by a dialer that knows its offers.
 pub record RefillsForetold (config : Config) (limit : ℕ) (nonce : List ℕ) (old new : Dials)
     (idle now : List View) (lefts left_now : List (Option (List ℕ))) : Type 0 where
   pub last : View

@@ -71,7 +71,7 @@ impl<L: Link> Lease<L> {
         ensures ran { (h : History) (l : Lent) → IsLent h l (lease_view L.tape L.faults self.old) →
             LeaseRan h l request.now (lease_view L.tape L.faults self.new)
             (lease_view L.tape L.faults self.new).broken result }
-        // The same by the client's own call, with the reason of each error.
+        // What the client's own call does, with the reason of each error.
         ensures asks { let old = lease_view L.tape L.faults self.old in
             let new = lease_view L.tape L.faults self.new in
             old.broken ≡ false →

@@ -39,7 +39,7 @@ foretold_less known over = record {
   reports = λ f. over.reports (known f);
 }
 
--- the same of a link that was new
+-- as foretold_less, of a link that was new
 pub from_fresh : (input : Input) (limit : ℕ) (foretells : Type 0) (link : LinkSpan)
     (outcome : Result SessionReport PgWireClientError)
     → link.old ≡ new_tape → link.before ≡ 0 → OverLink input limit foretells link outcome

@@ -19,7 +19,7 @@ abbrev pub stream_summary : ℕ → ℕ → GenSummary
 stream_summary count start =
     record { rows = count; digest = sha256 (payloads (gen_rows count start)) }
 
--- the same, with the length of the stream
+-- as stream_summary, with the length of the stream
 abbrev pub gen_text : ℕ → ℕ → List ℕ → List ℕ
 gen_text count start bytes = summary_text (stream_summary count start) (length bytes)
 

@@ -17,7 +17,7 @@ pub record SourceSpan : Type 1 where
   pub now : ℕ
   pub same : Type 0
 
--- the same of a sink
+-- as SourceSpan, of a sink
 pub record SinkSpan : Type 1 where
   pub old : SinkTape
   pub new : SinkTape

@@ -62,7 +62,7 @@ fn print_outcome(
     Ok(Printed { text, status, told })
 }
 
-// The same of an outcome that is used up. The program ends with it: what a report keeps is left to the system, which
+// Prints an outcome that is used up. The program ends with it: what a report keeps is left to the system, which
 // takes it back at once, and not let go of piece by piece.
 fn print_result(
     alloc: Global,

@@ -121,19 +121,19 @@ pub fn told_of_line(alloc: Global, text: &[u8], number: u64) -> String {
     told_of(alloc, number, expected, found)
 }
 
-/// The same of a pair script.
+/// What was expected at that line of a pair script.
 pub fn told_of_pair_line(alloc: Global, text: &[u8], number: u64) -> String {
     let (expected, found) = expected_in_pair_at(text, number);
     told_of(alloc, number, expected, found)
 }
 
-/// The same of a relay script.
+/// What was expected at that line of a relay script.
 pub fn told_of_relay_line(alloc: Global, text: &[u8], number: u64) -> String {
     let (expected, found) = expected_in_relay_at(text, number);
     told_of(alloc, number, expected, found)
 }
 
-/// The same of a pool script, also where a lease's number is not out at that line.
+/// What was expected at that line of a pool script, also where a lease's number is not out there.
 pub fn told_of_pool_line(alloc: Global, text: &[u8], number: u64) -> String {
     let (expected, found) = expected_in_pool_at(text, number);
     told_of(alloc, number, expected, found)

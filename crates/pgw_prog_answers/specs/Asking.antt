@@ -157,7 +157,7 @@ CountsEnd before now ends.Failed = now ≡ before
 CountsEnd before now ends.Misplaced = now ≡ before
 CountsEnd before now ends.Lost = now ≡ before
 
--- the same of a part, for private clauses
+-- as CountsEnd, of a part, for private clauses
 abbrev pub CountsHalt : ℕ → ℕ → Halt → Type 0
 CountsHalt before now (halt.Stopped why) = HasStopped before now why
 CountsHalt before now halt.GoesOn = now ≡ before

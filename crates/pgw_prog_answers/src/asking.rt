@@ -215,7 +215,7 @@ fn end_page<O: Sink>(alloc: Global, halt: Halt, page: &mut Page, output: &mut O)
     }
 }
 
-// The same, unless printing stopped.
+// Prints the end of a page, unless printing stopped.
 fn close<O: Sink>(alloc: Global, halt: Halt, page: &mut Page, output: &mut O) -> AnswerEnd
     ensures { ClosesSheet halt (sheet (O.tape output.old).wrote page.old)
         (O.faults output.old) (O.faults output.new) (O.tape output.new).wrote result }

@@ -48,7 +48,7 @@ ip_text (host.V4 octets) port = ipv4_text octets ++ (codes ":" ++ decimal port)
 ip_text (host.V6 segments) port =
     codes "[" ++ (ipv6_text segments ++ (codes "]:" ++ decimal port))
 
--- the same, or a name and a port, or a socket's file
+-- as ip_text, or a name and a port, or a socket's file
 abbrev pub server_text : Address → List ℕ
 server_text (address.Ip addr port) = ip_text addr port
 server_text (address.Host name port) = name ++ (codes ":" ++ decimal port)

@@ -45,7 +45,7 @@ enough columns held row rows few many =
     ∙ ap (λ (t : List (List Value)). aligned_text (laid_out columns t) columns (sample ++ rows)) (sym front)
     ∙ ap (λ (t : List (List Value)). aligned_text (laid_out columns (take 100 t)) columns t) whole
 
--- the same behind a text
+-- as enough, behind a text
 pub enough_behind : (old new : List ℕ) (columns : List Column) (held sample : List (List Value))
     (row : List Value)
     (laid : List TableColumn)

@@ -40,7 +40,7 @@ fn links_to(
     Ok(links)
 }
 
-// The same nonce for each session.
+// One nonce, for each session.
 fn nonces_for(alloc: Global, nonce: [u8; 18], count: usize) -> Result<Vec<[u8; 18]>, OutOfMemory>
     ensures { IfOk result (λ nonces. nonces.items ≡ replicate count nonce) }
 {

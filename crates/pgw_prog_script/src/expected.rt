@@ -169,7 +169,7 @@ fn pair_form(word: &str) -> &'static str {
     }
 }
 
-/// The same of a pair script.
+/// What was expected at a line of a pair script.
 pub fn expected_in_pair_at(text: &[u8], number: u64) -> (&'static str, &'static str) {
     let (before, line) = lines_at(text, number);
     let last = pair_place_named(first_word(before)).unwrap_or(PairPlace::Start);
@@ -213,7 +213,7 @@ fn relay_form(word: &str) -> &'static str {
     }
 }
 
-/// The same of a relay script.
+/// What was expected at a line of a relay script.
 pub fn expected_in_relay_at(text: &[u8], number: u64) -> (&'static str, &'static str) {
     let (before, line) = lines_at(text, number);
     let last = relay_place_named(first_word(before)).unwrap_or(RelayPlace::Start);
@@ -267,7 +267,7 @@ fn pool_form(word: &str) -> &'static str {
     }
 }
 
-/// The same of a pool script, also where a lease's number is not out at that line.
+/// What was expected at a line of a pool script, also where a lease's number is not out there.
 pub fn expected_in_pool_at(text: &[u8], number: u64) -> (&'static str, &'static str) {
     let (before, line) = lines_at(text, number);
     let last = pool_place_named(first_word(before)).unwrap_or(PoolPlace::Start);

@@ -135,7 +135,7 @@ impl RelayDraft {
         Ok(true)
     }
 
-    // The same of the server's.
+    // Takes a line of the server's bytes.
     fn take_server(&mut self, digits: &[u8]) -> Result<bool, OutOfMemory>
         ensures step { IfOk result (λ went. step relay_form self.old.place self.old.script
             (make_line RelayLine.Server (bytes_in digits.now))

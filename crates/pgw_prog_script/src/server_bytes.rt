@@ -111,7 +111,7 @@ impl ServerBytes {
         Ok(rest)
     }
 
-    // The same of any text of digits, digit by digit.
+    // Adds the bytes of any text of digits, digit by digit.
     fn add_spread_pairs(&mut self, text: &[u8]) -> Result<bool, OutOfMemory>
         ensures { IfOk result (λ known. AddsScriptBytes known text.now self.old self.new) }
     {

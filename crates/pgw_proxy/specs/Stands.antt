@@ -40,7 +40,7 @@ abbrev pub told_at : RelayCourse → Result (Unit {0}) ProxyFault
 told_at (Going p) = Ok tt
 told_at (Stopped why) = Err why
 
--- The same, where a call has just led there, and its answer says so, of a proxy that went on.
+-- as told_at, where a call has just led there, and its answer says so, of a proxy that went on.
 pub record ProxyArrives (old new : Proxy) (events : List SideEvent)
     (to_server to_client tape : List ℕ)
     (answer : Result (Unit {0}) ProxyFault) : Type 0 where

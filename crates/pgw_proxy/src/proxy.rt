@@ -80,7 +80,7 @@ impl Proxy {
         answer
     }
 
-    /// The same of a piece that came from the server, of which messages go to the client.
+    /// As `from_client`, of a piece that came from the server, whose messages go to the client.
     pub fn from_server(
         &mut self,
         alloc: Global,

@@ -158,7 +158,7 @@ fn turn<F: Link, T: Link>(
     }
 }
 
-// The same between the two links, by whose turn it is.
+// One turn between the two links, by whose it is.
 fn turn_of<A: Link, B: Link>(
     alloc: Global,
     side: Side,

@@ -101,7 +101,7 @@ fn take_all<B: Buffer>(
     }
 }
 
-// The same where messages keep cuts of the bytes, which copy none.
+// As `take_all`, where messages keep cuts of the bytes, which copy none.
 fn take_frozen(
     alloc: Global,
     side: Side,
@@ -134,7 +134,7 @@ fn take_frozen(
     }
 }
 
-// The same where the bytes lie.
+// As `take_all`, where the bytes lie.
 fn take_here(
     alloc: Global,
     side: Side,

@@ -192,7 +192,7 @@ impl Tag {
         })
     }
 
-    /// The same of a text that is given away: where the text begins with the command, no other is made.
+    /// What a text says that is given away: where the text begins with the command, no other is made.
     pub fn from_text(alloc: Global, text: Text) -> Result<Tag, OutOfMemory>
         ensures { IfOk result (λ tag. tag ≡ tag_of text) }
     {

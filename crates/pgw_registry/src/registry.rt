@@ -122,7 +122,7 @@ impl Registry {
         self.register_copied(pid, key, copy)
     }
 
-    /// The same with a copy of the key that was made before, so that what it allocates does not
+    /// As `register`, with a copy of the key that was made before, so that what it allocates does not
     /// grow with the key.
     pub fn register_copied(
         &mut self,

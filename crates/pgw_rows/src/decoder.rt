@@ -38,7 +38,7 @@ impl<'a> DataRowDecoder<'a> {
         }
     }
 
-    // The same of a row whose payload lies from one place of these bytes to another.
+    // A row whose payload lies from one place of these bytes to another.
     pub(crate) fn within(
         fields: &'a [FieldInfo],
         bytes: &'a Octets,

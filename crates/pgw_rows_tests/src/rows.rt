@@ -225,7 +225,7 @@ fn add_row<T: FromSql + FromSqlText + Debug + Drop>(
     }
 }
 
-// The same of all rows, of which there are fewer than five.
+// What two values of each row are read as, of fewer than five rows.
 fn all_rows<T: FromSql + FromSqlText + Debug + Drop>(
     alloc: Global,
     mut reader: DataRowsReader,

@@ -11,7 +11,7 @@ abbrev pub IsScramAnswer : {A : Type 0} → Result A PgWireError → Result A Pg
 IsScramAnswer (Ok x) answer = answer ≡ Ok x
 IsScramAnswer (Err e) answer = e ≢ OutOfMemory → answer ≡ Err e
 
--- the same of a client
+-- as IsScramAnswer, of a client
 abbrev pub AnswersClient : {A : Type 0} → Result A ScramClientError → Result A ScramClientError
     → Type 0
 AnswersClient (Ok x) answer = answer ≡ Ok x

@@ -31,7 +31,7 @@ abbrev pub proof_by : List ℕ → List ℕ → List ℕ
 proof_by client_key auth_message =
     xor client_key (client_signature (stored_key client_key) auth_message)
 
--- the same, by the SaltedPassword
+-- as proof_by, by the SaltedPassword
 unfoldable pub client_proof : List ℕ → List ℕ → List ℕ
 client_proof salted_password auth_message = proof_by (client_key salted_password) auth_message
 
@@ -39,7 +39,7 @@ client_proof salted_password auth_message = proof_by (client_key salted_password
 abbrev pub signature_by : List ℕ → List ℕ → List ℕ
 signature_by server_key auth_message = hmac_sha256 server_key auth_message
 
--- the same, by the SaltedPassword
+-- as signature_by, by the SaltedPassword
 unfoldable pub server_signature : List ℕ → List ℕ → List ℕ
 server_signature salted_password auth_message =
     signature_by (server_key salted_password) auth_message

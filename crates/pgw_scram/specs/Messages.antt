@@ -123,7 +123,7 @@ IsScramReading {A} Is message (Err fault.Grammar) =
     IsUtf8 message × ((parts : A) → Is message parts → ⊥)
 IsScramReading Is message (Err other) = ⊥
 
--- the same of server-first, where the form may be right and the count none
+-- as IsScramReading, of server-first, where the form may be right and the count none
 abbrev pub IsServerFirstReading : List ℕ → Result ServerFirst ScramMessageFault → Type 0
 IsServerFirstReading message (Err fault.Count) = HasNoCount message
 IsServerFirstReading message (Err fault.Grammar) =

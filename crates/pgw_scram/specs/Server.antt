@@ -55,7 +55,7 @@ abbrev pub scram_offer_as : ScramServerAuth → Result ClientFirst ScramMessageF
 scram_offer_as server (Err why) password own = Err (InvalidScramMessage why)
 scram_offer_as server (Ok parts) password own = offered_to server parts password own
 
--- the same, of client-first
+-- as scram_offer_as, of client-first
 abbrev pub scram_offer : ScramServerAuth → List ℕ → Password → List ℕ
     → Result (List ℕ × WaitingForClientFinal) PgWireError
 scram_offer server message password own =

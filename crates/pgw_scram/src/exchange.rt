@@ -125,7 +125,7 @@ pub fn client_final(
     reply_to(alloc, login, server_first, &parts)
 }
 
-/// The same, of the parts of the server's first message.
+/// As `client_final`, of the parts of the server's first message.
 fn reply_to(
     alloc: Global,
     login: &ClientLogin,

@@ -97,7 +97,7 @@ impl ScramServerAuth {
         self.offer(alloc, parts, password, nonce)
     }
 
-    /// The same, of the parts of the client's first message.
+    /// As `on_client_first_message`, of the parts of the client's first message.
     pub fn offer(
         &self,
         alloc: Global,

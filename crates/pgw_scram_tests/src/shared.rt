@@ -14,7 +14,7 @@ pub fn same<E: Debug + Drop>(found: Result<String, E>, want: &str) -> Result<(),
     Err(Fail::new(format_args!("{} and not {want}", found.as_str())))
 }
 
-/// The same of a text of the protocol's.
+/// That a text of the protocol's is the one that is wanted.
 pub fn same_text<E: Debug + Drop>(found: Result<Text, E>, want: &str) -> Result<(), Fail> {
     same(found.map(Text::into_string), want)
 }

@@ -16,7 +16,7 @@ kept_secret salted salt count = record {
   server_key = server_key salted;
 }
 
--- the same of a password
+-- as kept_secret, of a password
 abbrev pub secret_of : List ℕ → List ℕ → ℕ → StoredSecret
 secret_of password salt count = kept_secret (salted_password password salt count) salt count
 

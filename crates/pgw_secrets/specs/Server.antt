@@ -39,7 +39,7 @@ abbrev pub stored_offer_as : StoredScramAuth → Result ClientFirst ScramMessage
 stored_offer_as server (Err why) own = Err (InvalidScramMessage why)
 stored_offer_as server (Ok parts) own = stored_offer_to server parts own
 
--- the same, of client-first
+-- as stored_offer_as, of client-first
 abbrev pub stored_offer : StoredScramAuth → List ℕ → List ℕ
     → Result (List ℕ × StoredScramWaiting) PgWireError
 stored_offer server message own = stored_offer_as server (read_client_first message) own

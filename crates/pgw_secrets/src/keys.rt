@@ -36,7 +36,7 @@ pub(crate) fn decode(alloc: Global, text: &str) -> Result<Option<Vec<u8>>, OutOf
     }
 }
 
-// The same bytes, where they are 32.
+// The bytes as a key, where they are 32.
 fn key_of(bytes: &[u8]) -> Option<[u8; 32]>
     ensures some { IfSome result (λ key. (length bytes.now ≡ 32) × (key ≡ bytes.now)) }
     ensures none { IfNone result (length bytes.now ≢ 32) }

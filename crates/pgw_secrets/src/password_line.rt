@@ -61,7 +61,7 @@ fn colon_in(text: &[u8]) -> Option<usize>
     }
 }
 
-// The same, byte by byte.
+// The place of the first colon that no backslash escapes, byte by byte.
 #[tactic(auto, unfolding(crate::specs::PasswordReader::colon_from))]
 fn scan_for_colon(text: &[u8]) -> Option<usize>
     ensures place { result ≡ colon_from false 0 text.now }

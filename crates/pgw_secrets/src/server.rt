@@ -78,7 +78,7 @@ impl StoredScramAuth {
         self.offer(alloc, parts, nonce)
     }
 
-    /// The same, of the parts of the client's first message.
+    /// As `on_client_first_message`, of the parts of the client's first message.
     pub fn offer(
         &self,
         alloc: Global,

@@ -160,7 +160,7 @@ first_startup : (b : Bool) (e : ClientError) (rest : Option ClientError) → IsS
 first_startup true e rest is more = more
 first_startup false e rest is more = is
 
--- the same of what a client of SCRAM refuses
+-- as first_startup, of what a client of SCRAM refuses
 abbrev ScramIf : Option ScramClientError → Type 0
 ScramIf refusal = StartupIf (option_map of_scram refusal)
 

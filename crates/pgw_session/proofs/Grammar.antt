@@ -57,7 +57,7 @@ Rest input Admitted es = IsUpToReady is_news es
 Rest input (Answering k rows) es = IsAnswer k rows es
 Rest input PassingOver es = IsPassedOver es
 
--- the same behind a message
+-- as Rest, behind a message
 abbrev pub RestBy : Input → Next → List Event → Type 0
 RestBy input (Goes s reply) es = (more : List Event) × (es ≡ map Sent (sends reply) ++ more) × Rest input s more
 RestBy input Closes es = es ≡ []

@@ -316,7 +316,7 @@ begins_at input (Ok b) next w is =
     cc in ap (λ (t : Talk). standing_of input.config (heard_of t)) e
     ∙ first_sends input.config (startup_message input ∷ [])
 
--- the same of its bytes
+-- as begins_at, of its bytes
 pub conversation_completes : (input : Input) (segments : List (List Event)) (bytes out more : List ℕ)
     → IsTranscript input segments → SpellsGot (first_standing input.config) (all_events segments) bytes
     → EncodesSent (all_events segments) out

@@ -33,7 +33,7 @@ impl Octets {
         Ok(Octets { bytes })
     }
 
-    /// The same bytes. It copies none.
+    /// These very bytes. It copies none.
     pub fn from_bytes(bytes: Bytes) -> Octets
         ensures { result ≡ bytes }
     {

@@ -13,7 +13,7 @@ coded_at bytes = do
   t ← text_at code.1
   Ok ((code.0, t.0), t.1)
 
--- the same, or a code 0, which is the mark
+-- as coded_at, or a code 0, which is the mark
 unfoldable pub code_at : List ℕ → Result (Option (ℕ × List ℕ) × List ℕ) PgWireError
 code_at bytes = do
   code ← nat_at w8 bytes

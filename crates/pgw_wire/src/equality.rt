@@ -33,7 +33,7 @@ pub fn equality_is_exact()
     ensures out_of_memory { IsExact ⟦<OutOfMemory as PartialEq>⟧.eq }
 {}
 
-/// The same of lists and boxes of such values.
+/// Lists and boxes of such values are equal exactly where they are the same.
 pub fn equality_of_parts_is_exact<T: PartialEq>()
     requires { IsExact ⟦<T as PartialEq>⟧.eq }
     ensures listed { IsExact ⟦<Listed<T> as PartialEq>⟧.eq }

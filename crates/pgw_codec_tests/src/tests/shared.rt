@@ -69,7 +69,7 @@ pub fn refusal(
     }
 }
 
-/// The same of a message of one type.
+/// Why a message of one type is not written.
 pub fn refused<M: Message>(alloc: Global, message: &M) -> Result<String, OutOfMemory> {
     let mut buf = buffer(alloc, b"x")?;
     let found = message.encode(&mut buf);

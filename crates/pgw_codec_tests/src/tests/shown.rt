@@ -11,7 +11,7 @@ use pgw_wire::secret_key::SecretKey;
 use std::alloc::Global;
 use std::test::Fail;
 
-// The same among all messages of a client.
+// A message among all messages of a client.
 fn among_all(alloc: Global, kind: Kind) -> Result<PgWireFrontendMessage, OutOfMemory> {
     let message = family(alloc, kind)?;
     Ok(PgWireFrontendMessage::PasswordMessageFamily(message))
