@@ -28,10 +28,10 @@ lists_fit m is =
 pub put_counted16-requires : goal.put_counted16-requires
 put_counted16-requires c = omega (arith, ap length c.as_slice.ensures, (lists_fit c.args.self.now c.requires).0)
 
-pub put_parameters-requires : goal.put_parameters-requires
-put_parameters-requires c =
-    omega (arith, ap length c.as_slice-2.ensures, (lists_fit c.args.self.now c.requires).1)
-
 pub put_counted16-requires-2 : goal.put_counted16-requires-2
 put_counted16-requires-2 c =
+    omega (arith, ap length c.as_slice-2.ensures, (lists_fit c.args.self.now c.requires).1)
+
+pub put_counted16-requires-3 : goal.put_counted16-requires-3
+put_counted16-requires-3 c =
     omega (arith, ap length c.as_slice-3.ensures, (lists_fit c.args.self.now c.requires).2)
