@@ -23,6 +23,7 @@ use Rattle.pgw_client_push.specs.declared.state.State.TheVariants as state
 use Rattle.pgw_client_push.specs.Serving.{Serves}
 use Rattle.pgw_client_push.specs.Standing.{IsPushBroken, IsIdle, IsOpen, StandsFor, last_input}
 use Rattle.pgw_client_push.specs.State.{push_state_behind}
+use Rattle.pgw_client_push.specs.Told.{answers_in, asked_of}
 
 -- with one request more
 abbrev pub input_with_request : Input → Request → Input
@@ -48,7 +49,7 @@ IsLeft c (Err e) = IsPushBroken c
 -- the answer of a request that was asked is there once its segment has closed
 abbrev pub HasAnswer : PushClient → Result DialoguePhase ClientError → Type 0
 HasAnswer c (Ok phase.Done) =
-    (q : Request) → c.asked ≡ Some (q ∷ []) → (answer : Answer) × (c.notes.answers ≡ answer ∷ [])
+    (q : Request) → asked_of c ≡ Some (q ∷ []) → (answer : Answer) × (answers_in c ≡ answer ∷ [])
 HasAnswer c result = Unit {0}
 
 -- For every pair of bytes given and bytes put out that it stood for, it stands for that pair with the piece and what is

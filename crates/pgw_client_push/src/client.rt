@@ -162,6 +162,7 @@ fn serve_last(
 
 impl PushClient {
     ghost use Rattle.pgw_client_push.specs.Calls.{AsksNext, HasAnswer, IsLastAnswer, IsLeft, Served, StartsClient, TakesPiece};
+    ghost use Rattle.pgw_client_push.specs.Told.{answers_in, asked_of, push_room};
     ghost use Rattle.pgw_client_push.specs.Standing.{IsPushBroken, IsIdle, IsOpen, IsStarvedPush, StandsFor};
 
     /// Begins to log in: puts out the first message. It is made for this configuration and the nonce of a SCRAM login. A
@@ -224,11 +225,11 @@ impl PushClient {
     /// error it takes nothing more, and can't be asked.
     pub fn take(&mut self, piece: &[u8], out: &mut BytesMut) -> PgWireClientResult<DialoguePhase>
         requires waits { IsOpen self.old }
-        requires fits { length piece.now ≤ self.old.room }
+        requires fits { length piece.now ≤ push_room self.old }
         ensures takes { TakesPiece self.old self.new piece.now out.old.items out.new.items result }
         ensures left { IsLeft self.new result }
-        ensures room { self.new.room + length piece.now ≡ self.old.room }
-        ensures asked { self.new.asked ≡ self.old.asked }
+        ensures room { push_room self.new + length piece.now ≡ push_room self.old }
+        ensures asked { asked_of self.new ≡ asked_of self.old }
         ensures starved { IsStarvedPush self.new → result ≡ Err client.OutOfMemory }
     {
         self.room -= piece.len() as u64;
@@ -262,8 +263,8 @@ impl PushClient {
         requires { IsIdle self.old }
         ensures asks { AsksNext self.old self.new request out.old.items out.new.items result }
         ensures answer { HasAnswer self.new result }
-        ensures asked { IfOk result (λ phase. self.new.asked ≡ Some (request ∷ [])) }
-        ensures room { self.new.room ≡ self.old.room }
+        ensures asked { IfOk result (λ phase. asked_of self.new ≡ Some (request ∷ [])) }
+        ensures room { push_room self.new ≡ push_room self.old }
         ensures starved { IsStarvedPush self.new → result ≡ Err client.OutOfMemory }
     {
         match put_request(self.alloc, &request, out) {
@@ -280,10 +281,10 @@ impl PushClient {
     /// Hands out the answer of the last request, once. None where nothing was asked or its answer was handed out.
     pub fn take_answer(&mut self) -> Option<Answer>
         requires { IsIdle self.old }
-        ensures is { (answer : TheAnswer) → self.old.notes.answers ≡ answer ∷ [] →
+        ensures is { (answer : TheAnswer) → answers_in self.old ≡ answer ∷ [] →
             result ≡ Some answer }
-        ensures none { self.old.notes.answers ≡ [] → result ≡ None }
-        ensures once { self.new.notes.answers ≡ [] }
+        ensures none { answers_in self.old ≡ [] → result ≡ None }
+        ensures once { answers_in self.new ≡ [] }
         // For every pair that it stood for it is the last answer of the session, and the client stands for that pair still.
         ensures last { (input : TheInput) (limit : ℕ) (given put : List ℕ) →
             StandsFor input limit self.old given put →
@@ -291,7 +292,7 @@ impl PushClient {
         ensures stands { (input : TheInput) (limit : ℕ) (given put : List ℕ) →
             StandsFor input limit self.old given put → StandsFor input limit self.new given put }
         ensures idle { IsIdle self.new }
-        ensures room { self.new.room ≡ self.old.room }
+        ensures room { push_room self.new ≡ push_room self.old }
     {
         let kept = replace(&mut self.notes.answers, Listed::new(self.alloc));
         kept.into_vec().pop()
@@ -325,7 +326,7 @@ impl PushClient {
 
     /// How many bytes more it may be given.
     pub fn room(&self) -> u64
-        ensures { result ≡ self.now.room }
+        ensures { result ≡ push_room self.now }
     {
         self.room
     }
