@@ -23,7 +23,7 @@ use tokio::io::{DuplexStream, duplex};
 
 type Client = AsyncClient<DuplexStream>;
 
-/// The most bytes that are read of the server.
+// The most bytes that are read of the server.
 const LIMIT: u64 = 1_000_000;
 
 fn connected<R>(rt: &R, stream: DuplexStream, nonce: &[u8; 18]) -> Result<Client>

@@ -27,10 +27,10 @@ use std::{env, io, thread};
 
 type Client = PgWireClient<ClientSocket>;
 
-/// The most bytes that are read of the server.
+// The most bytes that are read of the server.
 const LIMIT: u64 = 1_000_000;
 
-/// The name of the prepared statement.
+// The name of the prepared statement.
 const NAME: Option<&str> = Some("herons");
 
 const QUERY: &str = "SELECT n AS number, $2 || n AS label FROM generate_series(1, $1) AS n";

@@ -33,7 +33,7 @@ pub(crate) const LIMIT: u64 = 1_000_000_000;
 
 const SESSIONS: usize = 4;
 
-/// As many threads may wait at a time.
+// As many threads may wait at a time.
 const WAITING: usize = 8;
 
 fn nonces<R: RandomSource>(rt: &R, alloc: Global) -> Result<Vec<[u8; 18]>> {

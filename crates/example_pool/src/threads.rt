@@ -18,16 +18,16 @@ use std::{io, thread};
 
 const THREADS: u32 = 8;
 
-/// So many leases each of them takes.
+// So many leases each of them takes.
 const LEASES: u32 = 250;
 
 /// So many are taken in all.
 pub(crate) const ALL: u64 = 2000;
 
-/// A server that is started anew refuses sessions for some time, so they are asked for so often.
+// A server that is started anew refuses sessions for some time, so they are asked for so often.
 const TRIES: u32 = 600;
 
-/// In milliseconds.
+// In milliseconds.
 const PAUSE: u64 = 100;
 
 /// What the threads count together.

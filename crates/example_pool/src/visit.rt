@@ -16,7 +16,7 @@ pub(crate) fn patience() -> Option<Duration> {
     Some(Duration::from_secs(60))
 }
 
-/// How many temporary tables, prepared statements and changed settings there are.
+// How many temporary tables, prepared statements and changed settings there are.
 const LOOK: &str = "SELECT (SELECT count(*) FROM pg_class WHERE relnamespace = pg_my_temp_schema())
     + (SELECT count(*) FROM pg_prepared_statements)
     + (SELECT count(*) WHERE current_setting('search_path') = 'herons')";

@@ -13,10 +13,10 @@ use std::sync::{Mutex, Wait};
 use std::thread::Threads;
 use std::{io, thread};
 
-/// A record of so many bytes is written to its file.
+// A record of so many bytes is written to its file.
 const FULL: usize = 65536;
 
-/// What both directions share: the proxy, what was recorded and not written yet, and the record's file.
+// What both directions share: the proxy, what was recorded and not written yet, and the record's file.
 #[derive(Drop)]
 struct Shared<F: Write + Drop> {
     proxy: Proxy,
@@ -47,7 +47,7 @@ impl<F: Write + Drop> Shared<F> {
     }
 }
 
-/// A way from one side to the other.
+// A way from one side to the other.
 #[derive(Clone, Copy)]
 struct Way<'a> {
     number: u32,

@@ -16,10 +16,10 @@ use rand::rngs::StdRng;
 use std::alloc::Global;
 use std::{env, io};
 
-/// The most bytes that are read of a server.
+// The most bytes that are read of a server.
 const LIMIT: u64 = 1_000_000;
 
-/// A dialer with one link, to the server whose bytes stand here.
+// A dialer with one link, to the server whose bytes stand here.
 fn memory_dialer(alloc: Global) -> Result<MemoryDialer> {
     let mut bytes = Vec::new(alloc);
     for message in SERVER {

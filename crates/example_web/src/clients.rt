@@ -26,10 +26,10 @@ use tokio::sync::{OwnedSemaphorePermit, Semaphore};
 
 type Client = AsyncClient<TcpStream>;
 
-/// So many questions are asked at a time, each of a client of its own.
+// So many questions are asked at a time, each of a client of its own.
 const PLACES: usize = 8;
 
-/// The most bytes that a client reads. One that has read so many is replaced.
+// The most bytes that a client reads. One that has read so many is replaced.
 const LIMIT: u64 = 1_000_000_000;
 
 /// What is needed of the runtime.
@@ -102,7 +102,7 @@ impl<R: Host> Clients<R> {
     }
 }
 
-/// How far a question has come.
+// How far a question has come.
 #[derive(Drop)]
 enum Step {
     Connecting(Connecting),
@@ -110,7 +110,7 @@ enum Step {
     Asking(Asking<TcpStream>),
 }
 
-/// What comes behind a step.
+// What comes behind a step.
 enum Next {
     Step(Step),
     Answer(Answer),

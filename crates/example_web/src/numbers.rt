@@ -17,7 +17,7 @@ use std::alloc::{AllocGlobal, Global};
 use std::rc::Rc;
 use tokio::sync::OwnedSemaphorePermit;
 
-/// So many rows are asked for at most.
+// So many rows are asked for at most.
 const MOST: u32 = 100_000;
 
 const JSON_LINES: &str = "application/x-ndjson";

@@ -40,7 +40,7 @@ const QUERY_WORDS: &str = "query takes [OPTION..] TEXT SQL..; try hothummei quer
 
 const CHECK_WORDS: &str = "check takes [OPTION..] TEXT; try hothummei check --help\n";
 
-/// How many seconds `check` waits where nothing else is said.
+// How many seconds `check` waits where nothing else is said.
 const PATIENCE: u64 = 10;
 
 // Tells people this on standard error, and ends with the status.

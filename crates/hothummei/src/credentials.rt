@@ -12,7 +12,7 @@ use std::net::{IpAddr, Ipv4Addr, Ipv6Addr};
 use std::os::unix::fs::PermissionsExt;
 use std::{fs, io};
 
-/// The folder of a server's socket, where none is named.
+// The folder of a server's socket, where none is named.
 const SOCKETS: &str = "/var/run/postgresql";
 
 const OPEN_TO_OTHERS: &str = "the file of passwords is not read, since others may read it\n";

@@ -30,7 +30,7 @@ fn came_of(alloc: Global, case: &Case) -> Result<Option<String>> {
     came
 }
 
-/// What came in a case, where it is not what was wanted.
+// What came in a case, where it is not what was wanted.
 fn failure(alloc: Global, section: &Section) -> Result<Option<String>> {
     let name = section.name.as_str();
     let case = Case::read(alloc, section.text.as_str()).context(format_args!("{name}"))?;

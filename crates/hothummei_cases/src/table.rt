@@ -26,7 +26,7 @@ pub fn split(line: &str) -> (&str, &str) {
     line.split_once(' ').unwrap_or((line, ""))
 }
 
-/// The text of the piece with this name.
+// The text of the piece with this name.
 fn text_of(alloc: Global, sections: &[Section], name: &str) -> Result<String> {
     for section in sections {
         if !section.is_case && section.name.as_str() == name {
@@ -36,7 +36,7 @@ fn text_of(alloc: Global, sections: &[Section], name: &str) -> Result<String> {
     bail!("no piece {name}")
 }
 
-/// Adds lines to the last section.
+// Adds lines to the last section.
 fn add(sections: &mut [Section], text: &str) -> Result<()> {
     let section = sections
         .last_mut()

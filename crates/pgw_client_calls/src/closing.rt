@@ -11,7 +11,7 @@ use pgw_link::dialer::Dialer;
 use pgw_link::link::Link;
 use pgw_link::sending::send;
 
-/// Terminate, as it is written.
+// Terminate, as it is written.
 const TERMINATE: [u8; 5] = [b'X', 0, 0, 0, 4];
 
 // Takes leave of the server, which a client that cannot be used does not.

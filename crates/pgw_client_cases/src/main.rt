@@ -19,7 +19,7 @@ use std::alloc::Global;
 use std::io;
 use std::io::BufReader;
 
-/// What is printed of a line, where something is.
+// What is printed of a line, where something is.
 fn printed(alloc: Global, pieces: &mut Pieces, line: &str) -> Result<Option<String>> {
     if line.is_empty() || line.starts_with('#') {
         return Ok(None);

@@ -17,7 +17,7 @@ use pgw_prog_answers::written::write_whole;
 use pgw_types::listed::Duplicate;
 use std::alloc::Global;
 
-/// What people are told of a server that will not do.
+// What people are told of a server that will not do.
 const UNFIT: &str = "a server was passed over: it is not as target_session_attrs wants\n";
 
 /// A place to connect to, and the nonce of a login there.

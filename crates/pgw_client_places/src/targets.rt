@@ -13,7 +13,7 @@ use pgw_session::types::Response;
 use pgw_types::listed::Listed;
 use std::alloc::Global;
 
-/// What is asked.
+// What is asked.
 const QUESTION: &str = "SHOW transaction_read_only";
 
 // A row of one value, `on` or `off`.

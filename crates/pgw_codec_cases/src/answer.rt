@@ -48,7 +48,7 @@ impl Coded for CancelRequest {
     }
 }
 
-/// How a copy of a message is written that was read from these bytes.
+// How a copy of a message is written that was read from these bytes.
 fn written<M: Coded>(alloc: Global, message: &M, read: &[u8]) -> Result<String> {
     let copy = message.duplicate()?;
     ensure!(copy == *message, "a copy differs");
@@ -61,7 +61,7 @@ fn written<M: Coded>(alloc: Global, message: &M, read: &[u8]) -> Result<String> 
     Ok(format!(in alloc; "as [{digits}]")?)
 }
 
-/// What is told of a message at the front of some bytes, of which these are left.
+// What is told of a message at the front of some bytes, of which these are left.
 fn message_told<M: Coded>(alloc: Global, message: &M, bytes: &[u8], left: &[u8]) -> Result<String> {
     let read = bytes
         .strip_suffix(left)

@@ -8,7 +8,7 @@ use pgw_frontend::frontend::PgWireFrontendMessage;
 use pgw_types::context::{DecodeContext, ProtocolVersion};
 use std::alloc::Global;
 
-/// The phase in which each message has a type byte.
+// The phase in which each message has a type byte.
 fn typed(version: ProtocolVersion) -> DecodeContext {
     DecodeContext {
         protocol_version: version,
@@ -19,7 +19,7 @@ fn typed(version: ProtocolVersion) -> DecodeContext {
     }
 }
 
-/// The phase in which a server's answer of one byte is awaited.
+// The phase in which a server's answer of one byte is awaited.
 fn awaiting_byte(is_ssl: bool) -> DecodeContext {
     let mut ctx = typed(ProtocolVersion::PROTOCOL3_2);
     ctx.awaiting_backend_ssl_response = is_ssl;
@@ -27,7 +27,7 @@ fn awaiting_byte(is_ssl: bool) -> DecodeContext {
     ctx
 }
 
-/// The phase in which a client's first message is awaited, or a request in its place.
+// The phase in which a client's first message is awaited, or a request in its place.
 fn awaiting_first(request: bool) -> DecodeContext {
     let mut ctx = typed(ProtocolVersion::PROTOCOL3_0);
     ctx.awaiting_frontend_ssl = request;
@@ -35,7 +35,7 @@ fn awaiting_first(request: bool) -> DecodeContext {
     ctx
 }
 
-/// The phase that a decoder's name tells.
+// The phase that a decoder's name tells.
 fn context_of(decoder: &str) -> Result<DecodeContext> {
     match decoder {
         "server-3.2" => Ok(typed(ProtocolVersion::PROTOCOL3_2)),
@@ -48,7 +48,7 @@ fn context_of(decoder: &str) -> Result<DecodeContext> {
     }
 }
 
-/// The bytes of hex digits, among which blanks may stand.
+// The bytes of hex digits, among which blanks may stand.
 fn hex_bytes(alloc: Global, digits: &str) -> Result<Vec<u8>> {
     let digits: String = digits.chars().filter(|c| *c != ' ').collect(alloc)?;
     Ok(hex::decode(alloc, digits.as_str())?)

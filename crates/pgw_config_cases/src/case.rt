@@ -33,7 +33,7 @@ fn address_shown(alloc: Global, address: &Address) -> Result<String> {
     }
 }
 
-/// The fields that a text gives, or why it is refused.
+// The fields that a text gives, or why it is refused.
 fn config_of(alloc: Global, text: &str) -> Result<String> {
     match Config::parse(alloc, text) {
         Ok(config) => fields_shown(alloc, &config),
@@ -41,7 +41,7 @@ fn config_of(alloc: Global, text: &str) -> Result<String> {
     }
 }
 
-/// Where a client of this configuration connects to.
+// Where a client of this configuration connects to.
 fn address_of(alloc: Global, config: &Config) -> Result<String> {
     match config.address(alloc) {
         Ok(address) => address_shown(alloc, &address),
@@ -49,14 +49,14 @@ fn address_of(alloc: Global, config: &Config) -> Result<String> {
     }
 }
 
-/// Where it connects to, with this directory of a Unix socket.
+// Where it connects to, with this directory of a Unix socket.
 fn socket_in(alloc: Global, directory: &str) -> Result<String> {
     let mut config = Config::new(alloc);
     config.host_path(alloc, directory)?;
     address_of(alloc, &config)
 }
 
-/// How the password stands in a configuration that is printed.
+// How the password stands in a configuration that is printed.
 fn password_shown(alloc: Global, config: &Config) -> Result<String> {
     let shown = format!(in alloc; "{config:?}")?;
     let (_, rest) = shown

@@ -5,7 +5,7 @@ use pgw_config::config::{Config, Host};
 use std::alloc::Global;
 use std::fmt::Debug;
 
-/// Adds a field, if it is given.
+// Adds a field, if it is given.
 fn add<T: Debug>(alloc: Global, out: &mut String, name: &str, value: Option<&T>) -> Result<()> {
     if let Some(value) = value {
         let field = format!(in alloc; " {name}={value:?}")?;
@@ -14,7 +14,7 @@ fn add<T: Debug>(alloc: Global, out: &mut String, name: &str, value: Option<&T>)
     Ok(())
 }
 
-/// Adds a list, if it has an element.
+// Adds a list, if it has an element.
 fn add_list<T: Debug>(alloc: Global, out: &mut String, name: &str, list: &[T]) -> Result<()> {
     if !list.is_empty() {
         let field = format!(in alloc; " {name}={list:?}")?;
@@ -23,7 +23,7 @@ fn add_list<T: Debug>(alloc: Global, out: &mut String, name: &str, list: &[T]) -
     Ok(())
 }
 
-/// Adds each host, or the directory of its socket.
+// Adds each host, or the directory of its socket.
 fn add_hosts(alloc: Global, out: &mut String, hosts: &[Host]) -> Result<()> {
     for host in hosts {
         let field = match host {

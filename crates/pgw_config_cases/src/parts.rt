@@ -13,7 +13,7 @@ fn part_shown(alloc: Global, part: &Part) -> Result<String> {
     }
 }
 
-/// How the parts of a text end.
+// How the parts of a text end.
 fn end_of(fault: &Option<Fault>) -> &'static str {
     match fault {
         None => "end",

@@ -14,7 +14,7 @@ use pgw_client_laws::laws::{simple_queries_are_segments, simple_queries_follow_o
 use pgw_handlers_default::DefaultSimpleQueryHandler;
 use std::alloc::Global;
 
-/// What is asked of a session at the end of a lease.
+// What is asked of a session at the end of a lease.
 const RESET: &str = "DISCARD ALL";
 
 /// Whether a pool kept a session that was given back.

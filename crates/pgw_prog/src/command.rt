@@ -11,7 +11,7 @@ use pgw_types::text::Text;
 use std::alloc::Global;
 use std::mem::replace;
 
-/// The most rows that a session of any size may have.
+// The most rows that a session of any size may have.
 const MOST_ROWS: u32 = 1000000;
 
 /// What the program is asked to do. It may hold a password, and shows none by `Debug`, which it has not.
@@ -75,7 +75,7 @@ fn command_named(word: &str) -> Command
     }
 }
 
-/// A simple query of each text.
+// A simple query of each text.
 fn queries_of(alloc: Global, texts: &[String]) -> Result<Listed<Request>, OutOfMemory>
     ensures { IfOk result (λ list. list ≡ requests_for (map string_bytes texts.now)) }
 {
@@ -86,7 +86,7 @@ fn queries_of(alloc: Global, texts: &[String]) -> Result<Listed<Request>, OutOfM
     Ok(requests)
 }
 
-/// A session with a server, where the word asks for one and the limit is a number.
+// A session with a server, where the word asks for one and the limit is a number.
 #[tactic(auto, unfolding(crate::specs::Command::connect_for))]
 fn connect_of(
     alloc: Global,
@@ -112,7 +112,7 @@ fn connect_of(
     }
 }
 
-/// A number, where it is one up to this.
+// A number, where it is one up to this.
 #[tactic(auto, unfolding(crate::specs::Command::up_to))]
 fn read_up_to(most: u32, word: &str) -> Option<u32>
     ensures named { result ≡ up_to most word.now }
@@ -124,7 +124,7 @@ fn read_up_to(most: u32, word: &str) -> Option<u32>
     }
 }
 
-/// A session of any size, where the word asks for one and its two words are numbers within their bounds.
+// A session of any size, where the word asks for one and its two words are numbers within their bounds.
 #[tactic(auto, unfolding(crate::specs::Command::gen_for))]
 fn gen_of(word: &str, rows: &str, start: &str) -> Command
     ensures named { result ≡ gen_for word.now rows.now start.now }
@@ -139,7 +139,7 @@ fn gen_of(word: &str, rows: &str, start: &str) -> Command
     }
 }
 
-/// The secret of a password, where its count is a number of 1 or more.
+// The secret of a password, where its count is a number of 1 or more.
 fn secret_of(alloc: Global, password: &str, count: &str) -> Result<Command, OutOfMemory>
     ensures named { IfOk result (λ c. c ≡ secret_with password.now (up_to 4294967295 count.now)) }
     ensures sound { IfOk result IsSoundCommand }
@@ -153,7 +153,7 @@ fn secret_of(alloc: Global, password: &str, count: &str) -> Result<Command, OutO
     }
 }
 
-/// What a word with two more asks for.
+// What a word with two more asks for.
 #[tactic(auto, unfolding(crate::specs::Command::secret_for))]
 fn of_three(alloc: Global, word: &str, one: &str, two: &str) -> Result<Command, OutOfMemory>
     ensures named { IfOk result (λ c. c ≡ secret_for word.now one.now two.now) }
@@ -166,7 +166,7 @@ fn of_three(alloc: Global, word: &str, one: &str, two: &str) -> Result<Command, 
     }
 }
 
-/// A password from a file, where the port is one.
+// A password from a file, where the port is one.
 fn passfile_of(
     alloc: Global,
     host: &str,
@@ -189,7 +189,7 @@ fn passfile_of(
     }
 }
 
-/// What a word with four more asks for, of which the last two are also given as they stand.
+// What a word with four more asks for, of which the last two are also given as they stand.
 #[tactic(auto, unfolding(crate::specs::Command::passfile_for))]
 fn of_five(
     alloc: Global,

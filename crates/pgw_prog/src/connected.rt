@@ -22,7 +22,7 @@ use pgw_types::memory::OutOfMemory;
 use std::alloc::Global;
 use std::mem::forget;
 
-/// Holds the session over a link to the address, and closes the link.
+// Holds the session over a link to the address, and closes the link.
 fn talk<D: Dialer>(
     alloc: Global,
     asked: &Connection,
@@ -93,7 +93,7 @@ fn print_refusal(
     printed
 }
 
-/// Holds the session at the address of a configuration and prints it, or prints that there is no address.
+// Holds the session at the address of a configuration and prints it, or prints that there is no address.
 fn connect_with<D: Dialer>(
     alloc: Global,
     asked: &Connection,

@@ -17,7 +17,7 @@ use pgw_types::memory::OutOfMemory;
 use pgw_types::octets::Octets;
 use std::alloc::Global;
 
-/// The most bytes that a call of the link moves.
+// The most bytes that a call of the link moves.
 const CUT: usize = 65536;
 
 #[tactic(auto, unfolding(crate::specs::Generated::summary_text))]

@@ -38,7 +38,7 @@ pub fn status_of(outcome: &PgWireClientResult<SessionReport>) -> Result<u8, OutO
     }
 }
 
-/// A configuration with a script's version and its hash of the server's certificate.
+// A configuration with a script's version and its hash of the server's certificate.
 fn configured(
     mut config: Config,
     version: ProtocolVersion,
@@ -83,7 +83,7 @@ fn print_session(
     print_with(alloc, written, outcome, told_of_outcome(alloc, outcome))
 }
 
-/// Prints what a session over this link gave.
+// Prints what a session over this link gave.
 fn print_outcome(
     alloc: Global,
     link: &MemoryLink,
@@ -107,7 +107,7 @@ fn print_outcome(
     print_session(alloc, link.written(), outcome)
 }
 
-/// Holds a session over a link in memory, and prints it.
+// Holds a session over a link in memory, and prints it.
 fn run(
     alloc: Global,
     link: &mut MemoryLink,
@@ -147,7 +147,7 @@ pub fn link_of(
     Ok(MemoryLink::new(alloc, server, cut, fail_reads, fail_writes))
 }
 
-/// Holds the session of a script with the configuration of its connection text, and prints it.
+// Holds the session of a script with the configuration of its connection text, and prints it.
 fn hold_with(alloc: Global, script: Script, config: Config) -> Result<Printed, OutOfMemory>
     requires { 0 < script.cut }
     ensures { IfOk result (PrintsOutcome script (Ok config)) }
@@ -181,7 +181,7 @@ fn hold_with(alloc: Global, script: Script, config: Config) -> Result<Printed, O
     held
 }
 
-/// Prints why a connection text is refused. Want of memory is no refusal to be printed.
+// Prints why a connection text is refused. Want of memory is no refusal to be printed.
 fn print_refusal(
     alloc: Global,
     text: &str,

@@ -79,7 +79,7 @@ fn kept(alloc: Global, script: &PairScript) -> Result<Password, OutOfMemory>
     Ok(Password::new(Some(salt), Octets::from_slice(alloc, &key)?))
 }
 
-/// The login that a script asks for.
+// The login that a script asks for.
 fn input_of(alloc: Global, script: PairScript) -> Result<PairInput, OutOfMemory>
     requires { 0 < script.count }
     ensures { IfOk result (λ input. input ≡ pair_input script) }

@@ -215,7 +215,7 @@ fn says(alloc: Global, text: &[u8], status: u8, told: String) -> Result<Printed,
     })
 }
 
-/// What is printed of a script whose line with this number is outside the grammar.
+// What is printed of a script whose line with this number is outside the grammar.
 fn says_line(alloc: Global, number: u64, told: String) -> Result<Printed, OutOfMemory>
     ensures { IfOk result (SaysLine number) }
 {
@@ -230,7 +230,7 @@ fn says_line(alloc: Global, number: u64, told: String) -> Result<Printed, OutOfM
     })
 }
 
-/// A kind of scripts.
+// A kind of scripts.
 #[derive(Clone, Copy)]
 enum ScriptKind {
     Session,
@@ -239,7 +239,7 @@ enum ScriptKind {
     Pool,
 }
 
-/// Reads a session script, lets its text go, and holds its session.
+// Reads a session script, lets its text go, and holds its session.
 fn answer_session(alloc: Global, text: Vec<u8>) -> Result<Printed, OutOfMemory>
     ensures { IfOk result (AnswersText session_form Holds text.items) }
 {
@@ -255,7 +255,7 @@ fn answer_session(alloc: Global, text: Vec<u8>) -> Result<Printed, OutOfMemory>
     }
 }
 
-/// Reads a pair script, lets its text go, and holds its login.
+// Reads a pair script, lets its text go, and holds its login.
 fn answer_pair(alloc: Global, text: Vec<u8>) -> Result<Printed, OutOfMemory>
     ensures { IfOk result (AnswersText pair_form PrintsPair text.items) }
 {
@@ -271,7 +271,7 @@ fn answer_pair(alloc: Global, text: Vec<u8>) -> Result<Printed, OutOfMemory>
     }
 }
 
-/// Reads a relay script, lets its text go, and runs its proxy.
+// Reads a relay script, lets its text go, and runs its proxy.
 fn answer_relay(alloc: Global, text: Vec<u8>) -> Result<Printed, OutOfMemory>
     ensures { IfOk result (AnswersText relay_form PrintsRelay text.items) }
 {
@@ -287,7 +287,7 @@ fn answer_relay(alloc: Global, text: Vec<u8>) -> Result<Printed, OutOfMemory>
     }
 }
 
-/// Reads a pool script, and makes its calls.
+// Reads a pool script, and makes its calls.
 fn answer_pool(alloc: Global, text: Vec<u8>) -> Result<Printed, OutOfMemory>
     ensures { IfOk result (AnswersText pool_form PrintsPool text.items) }
 {
@@ -373,7 +373,7 @@ fn answer<I: Source, D: Dialer>(
     }
 }
 
-/// Tells people a text. That a write of it fails changes nothing.
+// Tells people a text. That a write of it fails changes nothing.
 fn tell<E: Sink>(errors: &mut E, text: &str)
     ensures later { E.faults errors.old ≤ E.faults errors.new }
     ensures writes { AppendsToSink (E.tape errors.old) (E.tape errors.new) }

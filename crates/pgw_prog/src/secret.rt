@@ -10,7 +10,7 @@ use pgw_secrets::secret::StoredSecret;
 use pgw_types::memory::OutOfMemory;
 use std::alloc::Global;
 
-/// How many of the bytes that were drawn are the salt.
+// How many of the bytes that were drawn are the salt.
 const SALT_LEN: usize = 16;
 
 // A line to be printed.

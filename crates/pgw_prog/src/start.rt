@@ -23,7 +23,7 @@ pub fn start(rt: &HostRuntime) -> u8 {
     }
 }
 
-/// Tells people this on standard error, and ends with the status.
+// Tells people this on standard error, and ends with the status.
 fn told(rt: &HostRuntime, text: &str, status: u8) -> u8 {
     let _ = rt.eprint(text);
     status
@@ -57,7 +57,7 @@ pub fn start_with(rt: &HostRuntime, mut words: Vec<String>) -> u8 {
     status
 }
 
-/// Whether a command wants random bytes: only a session with a server and a new secret do.
+// Whether a command wants random bytes: only a session with a server and a new secret do.
 fn wants_random_bytes(command: &Command) -> bool {
     matches!(command, Command::Connect(_) | Command::Secret(_))
 }

@@ -22,7 +22,7 @@ pub const NO_RANDOM_BYTES: &str = "the system gave no random bytes\n";
 
 pub const TOO_LONG: &str = "a script has at most 16777216 bytes\n";
 
-/// The text, or an empty one where memory ran out.
+// The text, or an empty one where memory ran out.
 fn or_empty(alloc: Global, text: Result<String, AllocError>) -> String {
     match text {
         Ok(text) => text,
@@ -35,14 +35,14 @@ pub fn told(alloc: Global, text: &str) -> String {
     or_empty(alloc, String::from_str(alloc, text))
 }
 
-/// Whether a word may be a connection text: it may hold a password, and is not shown.
+// Whether a word may be a connection text: it may hold a password, and is not shown.
 fn may_hold_password(word: &str) -> bool {
     word.as_bytes()
         .iter()
         .any(|byte| *byte == b'=' || *byte == b':')
 }
 
-/// That a word is no command.
+// That a word is no command.
 fn no_command(alloc: Global, word: &str) -> Result<String, AllocError> {
     if may_hold_password(word) {
         format!(in alloc; "the first word is no command, as connect is")
@@ -51,7 +51,7 @@ fn no_command(alloc: Global, word: &str) -> Result<String, AllocError> {
     }
 }
 
-/// That a command takes no word behind it.
+// That a command takes no word behind it.
 fn more_fault(alloc: Global, word: &str, next: &str) -> Result<String, AllocError> {
     if may_hold_password(next) {
         format!(in alloc; "{word:?} takes no word behind it")
@@ -60,7 +60,7 @@ fn more_fault(alloc: Global, word: &str, next: &str) -> Result<String, AllocErro
     }
 }
 
-/// Why the words behind the program's name are no command.
+// Why the words behind the program's name are no command.
 fn words_fault(alloc: Global, words: &[String]) -> Result<String, AllocError> {
     match words {
         [word, rest @ ..] if word.as_str() == "connect" => connect_fault(alloc, rest),
@@ -87,7 +87,7 @@ fn words_fault(alloc: Global, words: &[String]) -> Result<String, AllocError> {
     }
 }
 
-/// Why the words behind `connect` name no session.
+// Why the words behind `connect` name no session.
 fn connect_fault(alloc: Global, rest: &[String]) -> Result<String, AllocError> {
     match rest {
         // The words are not shown: a connection text in the wrong place may hold a password.
@@ -107,7 +107,7 @@ pub fn told_of_words(alloc: Global, words: &[String]) -> String {
     )
 }
 
-/// What was expected at a line, and what stands out in its place.
+// What was expected at a line, and what stands out in its place.
 fn told_of(alloc: Global, number: u64, expected: &str, found: &str) -> String {
     or_empty(
         alloc,
@@ -139,7 +139,7 @@ pub fn told_of_pool_line(alloc: Global, text: &[u8], number: u64) -> String {
     told_of(alloc, number, expected, found)
 }
 
-/// A text without control characters but for line feeds: a server's message must not steer a terminal.
+// A text without control characters but for line feeds: a server's message must not steer a terminal.
 fn without_controls(alloc: Global, text: &str) -> Result<String, AllocError> {
     let mut plain = String::new(alloc);
     for c in text.chars() {
@@ -173,7 +173,7 @@ pub fn told_of_outcome(alloc: Global, outcome: &PgWireClientResult<SessionReport
     }
 }
 
-/// The number of the part with this key, counted from 1, where a password stands before it.
+// The number of the part with this key, counted from 1, where a password stands before it.
 fn behind_password(parts: &[Part], key: &str) -> Option<u64> {
     let mut has_password = false;
     for (index, part) in parts.iter().enumerate() {

@@ -9,7 +9,7 @@ use pgw_types::listed::{Duplicate, Listed};
 use pgw_types::memory::OutOfMemory;
 use std::alloc::Global;
 
-/// The format of values that come as text.
+// The format of values that come as text.
 const TEXT: i16 = 0;
 
 fn is_text(field: &FieldDescription) -> bool

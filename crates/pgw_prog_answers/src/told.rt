@@ -8,7 +8,7 @@ use std::alloc::{AllocError, Global};
 use std::fmt::Write;
 use unicode_width::UnicodeWidthStr;
 
-/// The code of the field that tells the place in the query.
+// The code of the field that tells the place in the query.
 const PLACE: u8 = b'P';
 
 // A text without control characters but for line feeds: a server's message must not steer a terminal.

@@ -6,7 +6,7 @@ use pgw_proxy::proxy::Proxy;
 use std::alloc::Global;
 use std::test::Fail;
 
-/// The Startup of a client.
+// The Startup of a client.
 const STARTUP: &[u8] = b"\0\0\0\x12\0\x03\0\0user\0bob\0\0";
 
 const PIECES: usize = 8192;

@@ -7,7 +7,7 @@ use pgw_proxy::recorded::Recorded;
 use std::alloc::{AllocError, Global};
 use std::test::Fail;
 
-/// A record in hexadecimal digits, and what it is read as: the letters of the sides, or the fault.
+// A record in hexadecimal digits, and what it is read as: the letters of the sides, or the fault.
 const RECORDS: &[(&str, &str)] = &[
     ("", ""),
     ("000000001200000012000300007573657200626f620000", "c"),

@@ -232,7 +232,7 @@ const ROWS: &[Row] = &[
     },
 ];
 
-/// What comes behind a fault, each piece with the letter of its side.
+// What comes behind a fault, each piece with the letter of its side.
 const BEHIND: &[(char, &[u8])] = &[
     ('c', b"Q\0\0\0\x05\0"),
     ('s', b"Z\0\0\0\x05I"),

@@ -9,22 +9,22 @@ use std::alloc::Global;
 use std::process::Abort;
 use std::test::Fail;
 
-/// The Startup of a client.
+// The Startup of a client.
 const STARTUP: &[u8] = b"\0\0\0\x12\0\x03\0\0user\0bob\0\0";
 
-/// AuthenticationOk and ReadyForQuery.
+// AuthenticationOk and ReadyForQuery.
 const READY: &[u8] = b"R\0\0\0\x08\0\0\0\0Z\0\0\0\x05I";
 
-/// A Startup, and a message of a type that there is not.
+// A Startup, and a message of a type that there is not.
 const REFUSED: &[u8] = b"\0\0\0\x12\0\x03\0\0user\0bob\0\0z\0\0\0\x04";
 
 const C: Side = Side::Client;
 
 const S: Side = Side::Server;
 
-/// What comes from the client, the calls that fail of the link to it and of the link to a server that answers READY,
-/// and the turns; then what was written to the server and to the client, the sides of the recorded messages, and the
-/// fault.
+// What comes from the client, the calls that fail of the link to it and of the link to a server that answers READY,
+// and the turns; then what was written to the server and to the client, the sides of the recorded messages, and the
+// fault.
 type Case = (
     (&'static [u8], Failing, Failing, &'static [Side]),
     (&'static [u8], &'static [u8], &'static str, &'static str),

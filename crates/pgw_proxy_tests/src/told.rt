@@ -35,7 +35,7 @@ fn proxy_faults() -> [(ProxyFault, &'static str); 8] {
     ]
 }
 
-/// Each fault of a record, and its text.
+// Each fault of a record, and its text.
 const RECORD_FAULTS: &[(RecordFault, &str)] = &[
     (RecordFault::Truncated(7), "record 7 is cut short"),
     (

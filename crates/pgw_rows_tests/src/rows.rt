@@ -80,7 +80,7 @@ fn add_lent(
     two_lent(alloc, &mut decoder, words)
 }
 
-/// Two values of a row as they are read, and what is lent behind them.
+// Two values of a row as they are read, and what is lent behind them.
 fn values<T: FromSql + FromSqlText + Debug + Drop>(
     alloc: Global,
     kinds: &[Kind],
@@ -92,7 +92,7 @@ fn values<T: FromSql + FromSqlText + Debug + Drop>(
     Ok(words)
 }
 
-/// The number of values of a row, whether it has none, and the bytes of two as they are lent.
+// The number of values of a row, whether it has none, and the bytes of two as they are lent.
 fn lent(alloc: Global, kinds: &[Kind], payload: &[u8]) -> Result<String, OutOfMemory> {
     let columns = columns(alloc, kinds)?;
     let mut words = String::new(alloc);
@@ -139,7 +139,7 @@ fn texts_are_read(rt: HostRuntime) -> Result<(), Fail> {
     )
 }
 
-/// Rows that end within their value.
+// Rows that end within their value.
 const SHORT: &[&[u8]] = &[
     b"",
     b"\0\0\0",
@@ -177,7 +177,7 @@ const TWO_NUMBERS: &[Kind] = &[(PgType::Int4, FieldFormat::Text); 2];
 
 const THREE_NUMBERS: &[Kind] = &[(PgType::Int4, FieldFormat::Text); 3];
 
-/// Rows with NULL among other values, and what two of them are read as, with what is lent behind them.
+// Rows with NULL among other values, and what two of them are read as, with what is lent behind them.
 const NULLS: &[(&[Kind], &[u8], &str)] = &[
     (
         TWO_NUMBERS,
@@ -237,8 +237,8 @@ fn all_rows<T: FromSql + FromSqlText + Debug + Drop>(
     Ok(words)
 }
 
-/// Two rows of one value and one without, and the beginning of a message that is no row, since its length ends before the
-/// number of values does.
+// Two rows of one value and one without, and the beginning of a message that is no row, since its length ends before the
+// number of values does.
 const FRONT: &[u8] =
     b"D\0\0\0\x0b\0\x01\0\0\0\x011D\0\0\0\x0b\0\x01\0\0\0\x012D\0\0\0\x06\0\0D\0\0\0\x05\0\0";
 
@@ -308,7 +308,7 @@ fn rows_of_a_run_in_order(rt: HostRuntime) -> Result<(), Fail> {
     Ok(())
 }
 
-/// The rows of `some_rows`: how many values each has, and its payload; and none behind them.
+// The rows of `some_rows`: how many values each has, and its payload; and none behind them.
 const LENT: &str =
     "(4, false); Some(DataRowRef { field_count: 1, payload: [0, 0, 0, 1, 48] }); Some(DataRowRef { field_count: 1, payload: [0, 0, 0, 1, 49] }); Some(DataRowRef { field_count: 1, payload: [0, 0, 0, 1, 50] }); Some(DataRowRef { field_count: 0, payload: [] }); None; ";
 
@@ -328,7 +328,7 @@ fn rows_are_lent(rt: HostRuntime) -> Result<(), Fail> {
     same(lent_rows(rt.alloc(), &rows), LENT)
 }
 
-/// A row alone, the rows of `some_rows`, and none behind them.
+// A row alone, the rows of `some_rows`, and none behind them.
 const TAKEN: &str =
     "Ok(Some(DataRow { payload: Octets { bytes: b\"\\0\\0\\0\\x01a\" }, field_count: 1 })); Ok(Some(DataRow { payload: Octets { bytes: b\"\\0\\0\\0\\x010\" }, field_count: 1 })); Ok(Some(DataRow { payload: Octets { bytes: b\"\\0\\0\\0\\x011\" }, field_count: 1 })); Ok(Some(DataRow { payload: Octets { bytes: b\"\\0\\0\\0\\x012\" }, field_count: 1 })); Ok(Some(DataRow { payload: Octets { bytes: b\"\" }, field_count: 0 })); Ok(None); ";
 
@@ -353,7 +353,7 @@ fn rows_are_taken(rt: HostRuntime) -> Result<(), Fail> {
     same(taken_rows(rt.alloc(), reader), TAKEN)
 }
 
-/// Bytes, how many rows stand whole at their front and are taken, and how many bytes are left.
+// Bytes, how many rows stand whole at their front and are taken, and how many bytes are left.
 const FRONTS: &[(&[u8], &str)] = &[
     (b"", "(0, 0, 0)"),
     (b"D\0\0\0\x06\0", "(0, 0, 6)"),

@@ -154,7 +154,7 @@ const TEXT_TYPES: &[PgType] = &[
     PgType::Unknown,
 ];
 
-/// Bytes, and what is read of them in both formats.
+// Bytes, and what is read of them in both formats.
 const TEXTS: &[(&[u8], &str)] = &[
     (b"", "Ok(Text { text: \"\" })"),
     (b" a\xc3\xa9 ", "Ok(Text { text: \" a\u{e9} \" })"),
@@ -185,8 +185,8 @@ fn texts(rt: HostRuntime) -> Result<(), Fail> {
     Ok(())
 }
 
-/// Types that a text holds the text form of, and no binary one: json, float4, float8, date, time, timestamp, timestamptz,
-/// interval, numeric, uuid, jsonb.
+// Types that a text holds the text form of, and no binary one: json, float4, float8, date, time, timestamp, timestamptz,
+// interval, numeric, uuid, jsonb.
 const WRITTEN_OUT: &[u32] = &[
     114, 700, 701, 1082, 1083, 1114, 1184, 1186, 1700, 2950, 3802,
 ];

@@ -8,7 +8,7 @@ use pgw_types::memory::OutOfMemory;
 use std::alloc::Global;
 use std::test::Fail;
 
-/// The test cases of RFC 4231 but the one that cuts its answer short.
+// The test cases of RFC 4231 but the one that cuts its answer short.
 const CODES: &[(&[u8], &[u8], &str)] = &[
     (
         &[0x0b; 20],
@@ -74,7 +74,7 @@ fn rounds(rt: HostRuntime) -> Result<(), Fail> {
     Ok(())
 }
 
-/// The first is the example of RFC 7677. A text that can't be prepared is salted as it is.
+// The first is the example of RFC 7677. A text that can't be prepared is salted as it is.
 const SALTED: &[(&str, &[u8], u32, &str)] = &[
     (
         "pencil",

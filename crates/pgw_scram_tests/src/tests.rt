@@ -52,9 +52,9 @@ fn proof_and_signature(rt: HostRuntime) -> Result<(), Fail> {
     same_bytes(&signature, "6rriTRBi23WpRR/wtup+mMhUZUn/dB5nLTJRsjl95G4=")
 }
 
-/// A password, the client's nonce, the server's first message, the client's last and the server's signature: the exchange
-/// of RFC 7677, section 3; that of RFC 5802, section 5, with SHA-256; and the first with another text of the server's, over
-/// which the proof is another. A password is prepared. All but the first were computed with Python's hashlib.
+// A password, the client's nonce, the server's first message, the client's last and the server's signature: the exchange
+// of RFC 7677, section 3; that of RFC 5802, section 5, with SHA-256; and the first with another text of the server's, over
+// which the proof is another. A password is prepared. All but the first were computed with Python's hashlib.
 const REPLIES: &[(&str, &str, &[u8], &str, &str)] = &[
     (
         "pencil",
@@ -250,7 +250,7 @@ fn begun(
     ScramClientAuth::new(user, password).build_client_first(alloc, &[0; 18])
 }
 
-/// What is sent of a user name is its prepared form, and it is not escaped.
+// What is sent of a user name is its prepared form, and it is not escaped.
 const USERS: &[(&str, &str)] = &[
     ("\u{e9} =", "n,,n=\u{e9} =,r=AAAAAAAAAAAAAAAAAAAAAAAA"),
     ("a=b", "n,,n=a=b,r=AAAAAAAAAAAAAAAAAAAAAAAA"),
@@ -282,8 +282,8 @@ fn first_of_bob(alloc: Global) -> Result<Text, OutOfMemory> {
     first
 }
 
-/// What both ends say of a name and a password that are not ASCII, and of which the password cannot be prepared. The proof
-/// and the signature were computed with Python's hashlib.
+// What both ends say of a name and a password that are not ASCII, and of which the password cannot be prepared. The proof
+// and the signature were computed with Python's hashlib.
 const USER: &str = "\u{e9} =";
 
 const PASSWORD: &str = "\u{e9}\n=";
@@ -315,7 +315,7 @@ fn client_accepts(rt: HostRuntime) -> Result<(), Fail> {
     same(sent(rt.alloc(), last), LAST)
 }
 
-/// A server's first message, and what `bob` with an empty password answers. The proofs were computed with Python's hashlib.
+// A server's first message, and what `bob` with an empty password answers. The proofs were computed with Python's hashlib.
 const OFFERS: &[(&[u8], &str)] = &[
     (b"r=BAAA,s=YmFy,i=12", "ScramError(NonceMismatch)"),
     (
@@ -350,7 +350,7 @@ fn client_refusals(rt: HostRuntime) -> Result<(), Fail> {
     Ok(())
 }
 
-/// What a client binds, its first message, and its last to an offer. The proofs were computed with Python's hashlib.
+// What a client binds, its first message, and its last to an offer. The proofs were computed with Python's hashlib.
 const BINDINGS: &[(Kind, &str, &str)] = &[
     (
         Kind::None,
@@ -420,7 +420,7 @@ fn client_bindings(rt: HostRuntime) -> Result<(), Fail> {
     Ok(())
 }
 
-/// A server's last message, and what the client says that took the offer above.
+// A server's last message, and what the client says that took the offer above.
 const VERDICTS: &[(&[u8], &str)] = &[
     (b"v=TcWD4tohUtUvE5wz2Jokok+dxGL6Kxqxo2+hytTAVWo=", "Ok(())"),
     (
@@ -452,7 +452,7 @@ fn verifier_refusals(rt: HostRuntime) -> Result<(), Fail> {
     Ok(())
 }
 
-/// A password as a server keeps it.
+// A password as a server keeps it.
 fn kept(alloc: Global, password: &str, salt: &[u8], count: u32) -> PgWireResult<Password> {
     let salted = gen_salted_password(alloc, password, salt, count.max(1))?;
     let salt = Octets::from_slice(alloc, salt)?;
@@ -526,7 +526,7 @@ fn server_accepts(rt: HostRuntime) -> Result<(), Fail> {
     same_text(accepted(rt.alloc()), ACCEPTED)
 }
 
-/// A client's first message, and what a server answers that keeps no salt.
+// A client's first message, and what a server answers that keeps no salt.
 const UNSALTED: &[(&[u8], &str)] = &[
     (b"n,,n=foo,r=a", "SaltRequired"),
     (b"n,,n=foo", "InvalidScramMessage(Grammar)"),
@@ -550,8 +550,8 @@ fn salt_required(rt: HostRuntime) -> Result<(), Fail> {
     Ok(())
 }
 
-/// A client's last message, and what a server answers that waits for a proof by the bytes `baz`. The last proof is right for
-/// the password `bar` (computed with Python's hashlib).
+// A client's last message, and what a server answers that waits for a proof by the bytes `baz`. The last proof is right for
+// the password `bar` (computed with Python's hashlib).
 const PROOFS: &[(&[u8], &str)] = &[
     (b"c=biws,r=a", "Err(InvalidScramMessage(Grammar))"),
     (b"c=eSws,r=b,p=", "Err(InvalidScramMessage(ChannelBinding))"),
@@ -584,8 +584,8 @@ fn server_refusals(rt: HostRuntime) -> Result<(), Fail> {
     Ok(())
 }
 
-/// Whether a server has a certificate, a client's first message and its last, and the fault: of those that suit the server
-/// it is the nonce alone.
+// Whether a server has a certificate, a client's first message and its last, and the fault: of those that suit the server
+// it is the nonce alone.
 const BOUND: &[(bool, &[u8], &[u8], &str)] = &[
     (
         true,

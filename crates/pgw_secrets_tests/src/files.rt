@@ -2,7 +2,7 @@
 use pgw_secrets::password_file::{PasswordFile, is_open_to_others};
 use std::test::Fail;
 
-/// A file of which each line tells something.
+// A file of which each line tells something.
 const FILE: &[u8] = b"#*:*:*:*:comment\n\
 \n\
 three:colons:only\n\
@@ -17,7 +17,7 @@ db.example:5433:*:bob:s2\r\n\
 *:*:*:cr:\r\r\n\
 last:1:*:*:no line feed\r";
 
-/// Host, port, database and user, and the password, or none.
+// Host, port, database and user, and the password, or none.
 const ASKED: &[(&str, u16, &str, &str, Option<&[u8]>)] = &[
     ("db.example", 5432, "sales", "bob", Some(b"s1")),
     ("db.example", 5433, "sales", "bob", Some(b"s2")),
@@ -47,7 +47,7 @@ fn look_ups(rt: HostRuntime) -> Result<(), Fail> {
     Ok(())
 }
 
-/// A mode, and whether others than the owner may read or write.
+// A mode, and whether others than the owner may read or write.
 const MODES: &[(u32, bool)] = &[
     (0o100600, false),
     (0o100400, false),

@@ -16,8 +16,8 @@ const FIRST: &[u8] =
 
 const WITHOUT_PROOF: &[u8] = b"c=biws,r=rOprNGfwEbeRWgbNEkqO%hvYDpWUa2RaTCAfuxFIlj)hNlF$k0";
 
-/// A proof of the example, and whether it is one: the one of RFC 7677, section 3, another, one that is no base64, and one
-/// of 31 bytes.
+// A proof of the example, and whether it is one: the one of RFC 7677, section 3, another, one that is no base64, and one
+// of 31 bytes.
 const PROOFS: &[(&str, bool)] = &[
     ("dHzbZapWIk4jUhN+Ute9ytag9zjfMHgsqmmiz7AndVQ=", true),
     ("dHzbZapWIk4jUhN+Ute9ytag9zjfMHgsqmmiz7AndVU=", false),
@@ -49,8 +49,8 @@ fn signature(_rt: HostRuntime) -> Result<(), Fail> {
     Err(Fail::new(format_args!("{signature:?}")))
 }
 
-/// The text of a password's secret, with the salt of the example and so many rounds. The keys were computed with Python's
-/// hashlib.
+// The text of a password's secret, with the salt of the example and so many rounds. The keys were computed with Python's
+// hashlib.
 const TEXTS: &[(&str, u32, &str)] = &[
     (
         "pencil",
@@ -83,7 +83,7 @@ fn texts(rt: HostRuntime) -> Result<(), Fail> {
     Ok(())
 }
 
-/// What PostgreSQL 15 keeps of the password `geheim`, by `CREATE ROLE .. PASSWORD`.
+// What PostgreSQL 15 keeps of the password `geheim`, by `CREATE ROLE .. PASSWORD`.
 const POSTGRESQLS: &str =
     "SCRAM-SHA-256$4096:lZ6Gtg9s0e9tJ+KUjm7eXw==$rCjGxHdegP4njk+eN5bpbxxApZdEwM62b3m+jrikYnY=:tFYkI95ci1iRJCuZRB8vh49BTlwcvNl4YvChjnV6M0s=";
 
@@ -105,7 +105,7 @@ fn read_again(alloc: Global, text: &str) -> Result<Text, SecretFault> {
     Ok(secret.to_text(alloc)?)
 }
 
-/// A text that tells no secret, and its first faulty part.
+// A text that tells no secret, and its first faulty part.
 const FAULTS: &[(&str, SecretFault)] = &[
     ("", SecretFault::Prefix),
     ("md5abc", SecretFault::Prefix),
@@ -145,7 +145,7 @@ fn faults(rt: HostRuntime) -> Result<(), Fail> {
     Ok(())
 }
 
-/// A login of a client with this password, by the server that keeps this secret's text: what the server answers last.
+// A login of a client with this password, by the server that keeps this secret's text: what the server answers last.
 fn logged_in(alloc: Global, password: &str, secret: &str) -> Result<String, Fail> {
     let secret = StoredSecret::read(alloc, secret)?;
     if secret.count == 0 {
@@ -172,7 +172,7 @@ fn logged_in(alloc: Global, password: &str, secret: &str) -> Result<String, Fail
     }
 }
 
-/// A password that a secret is made of, one that a client has, and what the server answers.
+// A password that a secret is made of, one that a client has, and what the server answers.
 const LOGINS: &[(&str, &str, &str)] = &[
     ("pencil", "pencil", "accepted"),
     (

@@ -32,7 +32,7 @@ const END: &[u8] = b"R\0\0\0\x08\0\0\0\0K\0\0\0\x0c\0\x01\x86\xa0\0\0\0\0Z\0\0\0
 
 const DATA: &[u8] = b"n,,\x01host=localhost\x01auth=Bearer token123\x01port=5432\x01\x01";
 
-/// Knows one token, of one user.
+// Knows one token, of one user.
 #[derive(Drop)]
 struct OneToken;
 
