@@ -1,10 +1,13 @@
 //! Stored secrets, and logins over them.
-use pgw_scram::client::ScramClientAuth;
+use pgw_scram::client::{
+    ScramClientAuth, ScramClientAuthWaitingForServerFinal, ScramClientAuthWaitingForServerFirst,
+};
 use pgw_secrets::secret::{SecretFault, StoredSecret};
-use pgw_secrets::server::StoredScramAuth;
+use pgw_secrets::server::{StoredScramAuth, StoredScramWaiting};
 use pgw_types::memory::OutOfMemory;
 use pgw_types::text::Text;
 use std::alloc::Global;
+use std::fmt::Debug;
 use std::test::Fail;
 
 const SALT: &[u8] = b"\x5b\x6d\x99\x68\x9d\x12\x35\x8e\xec\xa0\x4b\x14\x12\x36\xfa\x81";
@@ -145,30 +148,88 @@ fn faults(rt: HostRuntime) -> Result<(), Fail> {
     Ok(())
 }
 
+// The server that keeps the secret of this text.
+fn server_of(alloc: Global, text: &str) -> Option<StoredScramAuth> {
+    let secret = StoredSecret::read(alloc, text).ok()?;
+    if secret.count == 0 {
+        return None;
+    }
+    Some(StoredScramAuth::new(secret))
+}
+
+// A client of bob with this password.
+fn client_of(alloc: Global, password: &str) -> Option<ScramClientAuth> {
+    let user = Text::from_str(alloc, "bob").ok()?;
+    let password = Text::from_str(alloc, password).ok()?;
+    Some(ScramClientAuth::new(user, password))
+}
+
+// The server's first message, and both ends behind it.
+fn first_of(
+    alloc: Global,
+    client: ScramClientAuth,
+    server: &StoredScramAuth,
+) -> Option<
+    (
+        Text,
+        ScramClientAuthWaitingForServerFirst,
+        StoredScramWaiting,
+    ),
+> {
+    let (first, client) = client.build_client_first(alloc, &[0; 18]).ok()?;
+    let first = first.as_str().as_bytes();
+    let (answer, server) = server.on_client_first_message(alloc, first, &[1; 18]).ok()?;
+    Some((answer, client, server))
+}
+
+// The client's last message, and both ends behind it.
+fn last_of(
+    alloc: Global,
+    password: &str,
+    secret: &str,
+) -> Option<
+    (
+        Text,
+        ScramClientAuthWaitingForServerFinal,
+        StoredScramWaiting,
+    ),
+> {
+    let server = server_of(alloc, secret)?;
+    let client = client_of(alloc, password)?;
+    let (answer, client, server) = first_of(alloc, client, &server)?;
+    let answer = answer.as_str().as_bytes();
+    let (last, client) = client.build_client_final(alloc, answer).ok()?;
+    Some((last, client, server))
+}
+
+fn shown<T: Debug>(alloc: Global, value: &T) -> Result<String, OutOfMemory> {
+    Ok(format!(in alloc; "{value:?}")?)
+}
+
+// What the server says last to the client, and whether the client takes it for the server's.
+fn judged(
+    alloc: Global,
+    last: &Text,
+    client: &ScramClientAuthWaitingForServerFinal,
+    server: &StoredScramWaiting,
+) -> Result<String, OutOfMemory> {
+    let last = last.as_str().as_bytes();
+    match server.on_client_final_message(alloc, last) {
+        Ok(text) => {
+            let taken = client
+                .verify_server_final(alloc, text.as_str().as_bytes())
+                .is_ok();
+            Ok(String::from_str(alloc, if taken { "accepted" } else { "another server" })?)
+        }
+        Err(error) => shown(alloc, &error),
+    }
+}
+
 // A login of a client with this password, by the server that keeps this secret's text: what the server answers last.
 fn logged_in(alloc: Global, password: &str, secret: &str) -> Result<String, Fail> {
-    let secret = StoredSecret::read(alloc, secret)?;
-    if secret.count == 0 {
-        return Err(Fail::new(format_args!("no count")));
-    }
-    let server = StoredScramAuth::new(secret);
-    let client = ScramClientAuth::new(
-        Text::from_str(alloc, "bob")?,
-        Text::from_str(alloc, password)?,
-    );
-    let (first, client) = client.build_client_first(alloc, &[0; 18])?;
-    let (answer, server) = server.on_client_first_message(
-        alloc,
-        first.as_str().as_bytes(),
-        &[1; 18],
-    )?;
-    let (last, client) = client.build_client_final(alloc, answer.as_str().as_bytes())?;
-    match server.on_client_final_message(alloc, last.as_str().as_bytes()) {
-        Ok(text) => {
-            client.verify_server_final(alloc, text.as_str().as_bytes())?;
-            Ok(String::from_str(alloc, "accepted")?)
-        }
-        Err(error) => Ok(format!(in alloc; "{error:?}")?),
+    match last_of(alloc, password, secret) {
+        Some((last, client, server)) => Ok(judged(alloc, &last, &client, &server)?),
+        None => Err(Fail::new(format_args!("no exchange"))),
     }
 }
 
