@@ -1,7 +1,7 @@
 # try: runs the session script crates/hothummei/stdin before anything is proved, in a minute or two.
 # run: builds the program, which proves it, and runs the same script.
 # test: proves every crate and its tests from nothing, tries the must-fail edits, and runs the programs (rt ci). The merge
-# gate is .ci/run, which looks at the pages and the width of clauses first, and behind that runs the C library over bytes
+# gate is .ci/run, which looks at the pages and the width of lines first, and behind that runs the C library over bytes
 # that are written down (.ci/c), and all against a real PostgreSQL.
 # live: the program against a real PostgreSQL, in a scratch cluster (live/run).
 # lib: the C library, its header and its pkg-config file, in build/c; install puts them in place (docs/C.md). check-lib runs

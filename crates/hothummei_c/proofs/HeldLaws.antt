@@ -14,11 +14,11 @@ use Rattle.pgw_session.specs.Input.{Input}
 use Rattle.hothummei_c.specs.declared.held.Held.{Held}
 use Rattle.hothummei_c.specs.declared.held.HeldState.{HeldState}
 use Rattle.hothummei_c.specs.declared.held.HeldState.TheVariants as held
-use Rattle.hothummei_c.specs.Held.{HeldStarts, dialogue_of, state_of}
+use Rattle.hothummei_c.specs.Held.{HeldStarts, dialogue_of, handle_state}
 use Rattle.hothummei_c.specs.Opening.{PutsStartup, held_behind}
 
 -- what is done with bytes behind an answer is what a dialogue does with them
-pub same_state : (answer : Result DialoguePhase ClientError) → state_of (held_behind answer) ≡ state_behind answer
+pub same_state : (answer : Result DialoguePhase ClientError) → handle_state (held_behind answer) ≡ state_behind answer
 same_state (Ok phase.Waiting) = refl
 same_state (Ok phase.Ready) = refl
 same_state (Ok phase.Done) = refl
@@ -40,9 +40,9 @@ same_state (Err client.OutOfMemory) = refl
 
 -- refused, or starved
 pub broken_of : (s : HeldState) → (s ≡ held.Refused) ⊎ (s ≡ held.Starved)
-    → (state_of s ≡ state.Refused) ⊎ (state_of s ≡ state.Starved)
-broken_of s (inl is) = inl (ap state_of is)
-broken_of s (inr is) = inr (ap state_of is)
+    → (handle_state s ≡ state.Refused) ⊎ (handle_state s ≡ state.Starved)
+broken_of s (inl is) = inl (ap handle_state is)
+broken_of s (inr is) = inr (ap handle_state is)
 
 -- what opened a session begins it
 pub held_starts : (input : Input) (limit : ℕ) (h : Held) (old new : List ℕ)
@@ -50,7 +50,7 @@ pub held_starts : (input : Input) (limit : ℕ) (h : Held) (old new : List ℕ)
     → h.state ≡ held.Going
     → HeldStarts input limit old new (Ok h)
 held_starts input limit h old new opened made empty room going =
-    starts input limit (dialogue_of h) opened.0 old new opened.1 opened.2 made empty room (ap state_of going)
+    starts input limit (dialogue_of h) opened.0 old new opened.1 opened.2 made empty room (ap handle_state going)
 
 -- where a dialogue is behind an answer
 pub is_behind_answer : (d : Dialogue) (fed : Result Bool ClientError) (answer : Result DialoguePhase ClientError)

@@ -10,11 +10,11 @@ use Rattle.hothummei_c.specs.declared.held.Held.{Held}
 use Rattle.hothummei_c.specs.declared.held.HeldState.{HeldState}
 use Rattle.hothummei_c.specs.declared.held.HeldState.TheVariants as held
 
-abbrev pub state_of : HeldState → State
-state_of held.Going = state.Going
-state_of held.Done = state.Done
-state_of held.Refused = state.Refused
-state_of held.Starved = state.Starved
+abbrev pub handle_state : HeldState → State
+handle_state held.Going = state.Going
+handle_state held.Done = state.Done
+handle_state held.Refused = state.Refused
+handle_state held.Starved = state.Starved
 
 -- where it lies says nothing
 abbrev pub dialogue_of : Held → Dialogue
@@ -26,7 +26,7 @@ dialogue_of h = record {
   notes = h.notes;
   inbox = h.inbox;
   room = h.room;
-  state = state_of h.state;
+  state = handle_state h.state;
 }
 
 abbrev pub HeldStarts : Input → ℕ → List ℕ → List ℕ → Result Held ClientError → Type 0

@@ -6,7 +6,7 @@ use Rattle.pgw_pool_turns.specs.declared.waiting.JoinError.{JoinError}
 use Rattle.pgw_pool_turns.specs.declared.waiting.JoinError.TheVariants as join
 use Rattle.pgw_pool_turns.specs.Rows.{JoinsNone}
 use Rattle.pgw_pool_turns.specs.Standings.{IsFree}
-use Rattle.pgw_pool_turns.specs.Desks.{TurnStock, MayServe, LendsFirst, LendsNothing, Lending, refusal_for}
+use Rattle.pgw_pool_turns.specs.Desks.{TurnStock, MayServe, DeskLendsFirst, LendsNothing, Lending, refusal_for}
 
 pub but_for : (P Q R : Type 0) (b : Bool) → MatchBool b P (Q × R) → MatchBool b P Q
 but_for P Q R true m = m
@@ -22,7 +22,7 @@ not_so b is iff p = let t : b ≡ true = iff.1 p in cc
 -- its turn came, or none waited
 pub is_served : {S Lent : Type 0} (lends : S → S → Lent → Type 0) (is_spent : S → Type 0)
     (old new : TurnStock S) (one : Option Lent)
-    → MayServe old → LendsFirst lends is_spent old new one → Lending lends is_spent old new (ok_or one Exhausted)
+    → MayServe old → DeskLendsFirst lends is_spent old new one → Lending lends is_spent old new (ok_or one Exhausted)
 is_served lends is_spent old new (Some x) may l = (may, l)
 is_served lends is_spent old new None may l = inl (may, l.0)
 

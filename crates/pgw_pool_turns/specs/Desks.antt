@@ -18,24 +18,24 @@ refusal_for join.Full = Crowded
 refusal_for join.Exhausted = Exhausted
 
 module _ {S : Type 0} where
-  abbrev pub held : S → TurnDesk → TurnStock S
-  held stock counts = record { stock = stock; counts = counts }
+  abbrev pub desk_held : S → TurnDesk → TurnStock S
+  desk_held stock counts = record { stock = stock; counts = counts }
 
   -- the counts are those of the stock, and of no more than there is room for
-  abbrev pub IsCounted : (S → ℕ) → (S → ℕ) → TurnStock S → Type 0
-  IsCounted ready room d =
+  abbrev pub IsDeskCounted : (S → ℕ) → (S → ℕ) → TurnStock S → Type 0
+  IsDeskCounted ready room d =
       (d.counts.ready ≡ ready d.stock) × (d.counts.room ≡ room d.stock) × IsWithinRoom d.counts
 
   -- ---- calls
 
   -- One of the stock's things is lent; or none, and the stock stays: exactly where it is spent.
-  abbrev pub LendsFirst : {Lent : Type 0} → (S → S → Lent → Type 0) → (S → Type 0) →
+  abbrev pub DeskLendsFirst : {Lent : Type 0} → (S → S → Lent → Type 0) → (S → Type 0) →
       TurnStock S → TurnStock S → Option Lent → Type 0
-  LendsFirst lends is_spent old new (Some one) =
+  DeskLendsFirst lends is_spent old new (Some one) =
       (¬ is_spent old.stock) × lends old.stock new.stock one
       × (new.counts ≡ after_lent_turn old.counts)
-  LendsFirst lends is_spent old new None =
-      is_spent old.stock × (new ≡ held old.stock (after_empty_turn old.counts))
+  DeskLendsFirst lends is_spent old new None =
+      is_spent old.stock × (new ≡ desk_held old.stock (after_empty_turn old.counts))
 
   -- the stock takes a thing that was out
   abbrev pub TakesBack : {Back : Type 0} → (S → Back → S → Type 0) → (S → Back → Type 0) →
@@ -73,5 +73,5 @@ module _ {S : Type 0} where
   abbrev pub Lending : {Lent : Type 0} → (S → S → Lent → Type 0) → (S → Type 0) →
       TurnStock S → TurnStock S → Result Lent LendRefusal → Type 0
   Lending lends is_spent old new (Ok one) =
-      MayServe old × LendsFirst lends is_spent old new (Some one)
+      MayServe old × DeskLendsFirst lends is_spent old new (Some one)
   Lending lends is_spent old new (Err e) = LendsNothing is_spent old e

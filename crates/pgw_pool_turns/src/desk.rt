@@ -2,7 +2,7 @@
 ghost use Rattle.std.specs.Prelude.{◌≡◌, ◌+◌, ◌-◌, ◌<◌, ◌≤◌, ◌↔◌, IsTrue, IfOk, IfErr, IfSome, OnErr, IfNone, MatchBool, MatchOption, [], ◌⊎◌};
 ghost use Rattle.pgw_pool_turns.specs.Rows.{JoinsNone};
 ghost use Rattle.pgw_pool_turns.specs.Standings.{IsFree, IsTurn, with_next_turn, gone, lost, claimed, HasPlace, numbers_of, new_standing};
-ghost use Rattle.pgw_pool_turns.specs.Desks.{held, IsCounted, LendsFirst, TakesBack, TakesNone, LosesOne};
+ghost use Rattle.pgw_pool_turns.specs.Desks.{desk_held, IsDeskCounted, DeskLendsFirst, TakesBack, TakesNone, LosesOne};
 
 use crate::stock::Stock;
 use crate::waiting::{JoinError, Waiting};
@@ -21,11 +21,12 @@ pub struct Desk<S: Stock> {
 impl<S: Stock> Model for Desk<S> {
     ghost use Rattle.std.specs.Prelude.{◌≡◌};
     ghost use Rattle.pgw_pool_turns.specs.Standings.{IsWithinRoom, turn_standing};
-    ghost use Rattle.pgw_pool_turns.specs.Desks.{TurnStock, held};
+    ghost use Rattle.pgw_pool_turns.specs.Desks.{TurnStock, desk_held};
 
     ghost Value = { TurnStock S };
 
-    ghost view = { λ d. held d.stock (turn_standing d.room (S.ready d.stock) d.out d.waiting) };
+    ghost view = { λ d. desk_held d.stock
+        (turn_standing d.room (S.ready d.stock) d.out d.waiting) };
 
     ghost invariant = { λ d. IsWithinRoom (turn_standing d.room (S.ready d.stock) d.out d.waiting)
         × (d.room ≡ S.room d.stock) };
@@ -49,7 +50,7 @@ impl<S: Stock> Desk<S> {
     pub fn new(alloc: Global, stock: S, room_to_wait: usize) -> Result<Desk<S>, AllocError>
         requires { S.ready stock ≤ S.room stock }
         ensures { IfOk result
-            (λ d. d ≡ held stock (new_standing (S.room stock) (S.ready stock) room_to_wait)) }
+            (λ d. d ≡ desk_held stock (new_standing (S.room stock) (S.ready stock) room_to_wait)) }
     {
         let room = stock.room();
         Ok(Desk {
@@ -71,7 +72,7 @@ impl<S: Stock> Desk<S> {
 
     pub fn numbers(&self) -> Numbers
         ensures numbers { result ≡ numbers_of self.now.counts }
-        ensures counted { IsCounted S.ready S.room self.now }
+        ensures counted { IsDeskCounted S.ready S.room self.now }
         ensures kept { result.ready + result.out ≤ result.capacity }
     {
         Numbers {
@@ -85,7 +86,7 @@ impl<S: Stock> Desk<S> {
     /// Whether one can be lent to who comes now: one is ready, and nobody waits.
     pub fn is_free(&self) -> bool
         ensures free { IsTrue result ↔ IsFree self.now.counts }
-        ensures counted { IsCounted S.ready S.room self.now }
+        ensures counted { IsDeskCounted S.ready S.room self.now }
     {
         self.stock.ready() > 0 && self.waiting.len() == 0
     }
@@ -112,7 +113,7 @@ impl<S: Stock> Desk<S> {
     /// A ticket behind those of all who wait. It takes no memory.
     pub fn join(&mut self) -> Result<u64, JoinError>
         ensures joined { IfOk result (λ ticket. (ticket ≡ self.old.counts.row.issued)
-            × (self.new ≡ held self.old.stock (with_next_turn self.old.counts))) }
+            × (self.new ≡ desk_held self.old.stock (with_next_turn self.old.counts))) }
         ensures refused { IfErr result (JoinsNone self.old.counts.row) }
         ensures same { OnErr result (self.new ≡ self.old) }
     {
@@ -121,17 +122,17 @@ impl<S: Stock> Desk<S> {
 
     /// Who has this ticket waits no longer.
     pub fn leave(&mut self, ticket: u64)
-        ensures counted { IsCounted S.ready S.room self.old }
-        ensures gone { self.new ≡ held self.old.stock (gone ticket self.old.counts) }
+        ensures counted { IsDeskCounted S.ready S.room self.old }
+        ensures gone { self.new ≡ desk_held self.old.stock (gone ticket self.old.counts) }
     {
         self.waiting.leave(ticket)
     }
 
     fn lend(&mut self) -> Option<S::Lent>
         requires { 0 < self.old.counts.ready }
-        ensures counted { IsCounted S.ready S.room self.old }
+        ensures counted { IsDeskCounted S.ready S.room self.old }
         ensures fresh { IfSome result S.fresh }
-        ensures lends { LendsFirst S.lends S.is_spent self.old self.new result }
+        ensures lends { DeskLendsFirst S.lends S.is_spent self.old self.new result }
     {
         self.waiting.serve();
         let lent = self.stock.lend();
@@ -145,7 +146,7 @@ impl<S: Stock> Desk<S> {
     pub fn lend_at_once(&mut self) -> Option<S::Lent>
         requires { IsFree self.old.counts }
         ensures fresh { IfSome result S.fresh }
-        ensures lends { LendsFirst S.lends S.is_spent self.old self.new result }
+        ensures lends { DeskLendsFirst S.lends S.is_spent self.old self.new result }
     {
         self.lend()
     }
@@ -153,9 +154,9 @@ impl<S: Stock> Desk<S> {
     /// Lends to who has this ticket, which no longer waits, at None neither.
     pub fn lend_to(&mut self, ticket: u64) -> Option<S::Lent>
         requires { IsTurn ticket self.old.counts }
-        ensures counted { IsCounted S.ready S.room self.old }
+        ensures counted { IsDeskCounted S.ready S.room self.old }
         ensures fresh { IfSome result S.fresh }
-        ensures lends { LendsFirst S.lends S.is_spent self.old self.new result }
+        ensures lends { DeskLendsFirst S.lends S.is_spent self.old self.new result }
     {
         let _first = ticket;
         self.lend()
@@ -164,7 +165,7 @@ impl<S: Stock> Desk<S> {
     /// Takes back a thing that was out, and says whether it did. It does not where none is out, or
     /// where the thing is none of the stock's own.
     pub fn put(&mut self, back: S::Back) -> bool
-        ensures counted { IsCounted S.ready S.room self.old }
+        ensures counted { IsDeskCounted S.ready S.room self.old }
         ensures taken { MatchBool result (TakesBack S.takes S.refuses back self.old self.new)
             (TakesNone S.refuses back self.old × (self.new ≡ self.old)) }
     {
@@ -182,10 +183,10 @@ impl<S: Stock> Desk<S> {
     /// Fills a place that was kept, and says whether it did. Where the stock does not take the
     /// thing the place is free again.
     pub fn fill(&mut self, back: S::Back) -> bool
-        ensures counted { IsCounted S.ready S.room self.old }
+        ensures counted { IsDeskCounted S.ready S.room self.old }
         ensures taken { MatchBool result (TakesBack S.takes S.refuses back self.old self.new)
             (TakesNone S.refuses back self.old
-            × (self.new ≡ held self.old.stock (lost self.old.counts))) }
+            × (self.new ≡ desk_held self.old.stock (lost self.old.counts))) }
     {
         let filled = self.put(back);
         if !filled {
@@ -207,16 +208,16 @@ impl<S: Stock> Desk<S> {
 
     /// A place that was kept is free again.
     pub fn give_up(&mut self)
-        ensures { self.new ≡ held self.old.stock (lost self.old.counts) }
+        ensures { self.new ≡ desk_held self.old.stock (lost self.old.counts) }
     {
         self.out = self.out.saturating_sub(1);
     }
 
     /// Keeps a place for a thing that is to come, where there is one.
     pub fn claim(&mut self) -> bool
-        ensures counted { IsCounted S.ready S.room self.old }
+        ensures counted { IsDeskCounted S.ready S.room self.old }
         ensures claimed { MatchBool result (HasPlace self.old.counts
-            × (self.new ≡ held self.old.stock (claimed self.old.counts)))
+            × (self.new ≡ desk_held self.old.stock (claimed self.old.counts)))
             ((self.new ≡ self.old)
             × (self.old.counts.ready + self.old.counts.out ≡ self.old.counts.room)) }
     {

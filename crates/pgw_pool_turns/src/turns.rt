@@ -3,7 +3,7 @@ ghost use Rattle.std.specs.Prelude.{◌≡◌, ◌≢◌, ◌+◌, ◌≤◌, If
 ghost use Rattle.std.specs.Sync.Mutex.{mutex_guard_value};
 ghost use Rattle.pgw_pool_turns.specs.Rows.{JoinsNone};
 ghost use Rattle.pgw_pool_turns.specs.Standings.{IsTurn, HasPlace, numbers_of};
-ghost use Rattle.pgw_pool_turns.specs.Desks.{TurnStock, IsCounted, refusal_for, TakesBack, TakesNone, Lending};
+ghost use Rattle.pgw_pool_turns.specs.Desks.{TurnStock, IsDeskCounted, refusal_for, TakesBack, TakesNone, Lending};
 
 use crate::bells::Bells;
 use crate::desk::{Desk, Numbers};
@@ -61,7 +61,7 @@ impl<S: Stock> Turns<S> {
 
     /// How many things there are, at one moment.
     pub fn numbers<R: Wait>(&self, rt: &R) -> Numbers
-        ensures numbers { (d : TurnStock S) × IsCounted S.ready S.room d
+        ensures numbers { (d : TurnStock S) × IsDeskCounted S.ready S.room d
             × (result ≡ numbers_of d.counts) }
         ensures kept { result.ready + result.out ≤ result.capacity }
     {
@@ -117,7 +117,8 @@ impl<S: Stock> Turns<S> {
         limit: Option<Duration>,
     ) -> Result<S::Lent, LendRefusal>
         // Of some desk, which is the one behind the lock as it was at one moment.
-        ensures lending { (old : TurnStock S) × (new : TurnStock S) × IsCounted S.ready S.room old
+        ensures lending { (old : TurnStock S) × (new : TurnStock S) ×
+            IsDeskCounted S.ready S.room old
             × Lending S.lends S.is_spent old new result }
         ensures fresh { IfOk result S.fresh }
         // Who waits without a limit is not refused for time.
@@ -145,7 +146,7 @@ impl<S: Stock> Turns<S> {
     /// Takes back a thing that was out, and says whether it did. It does not where none is out, or
     /// where the thing is none of the stock's own.
     pub fn give_back<R: Wait>(&self, rt: &R, back: S::Back) -> bool
-        ensures { (old : TurnStock S) × (new : TurnStock S) × IsCounted S.ready S.room old
+        ensures { (old : TurnStock S) × (new : TurnStock S) × IsDeskCounted S.ready S.room old
             × MatchBool result (TakesBack S.takes S.refuses back old new)
             (TakesNone S.refuses back old) }
     {
@@ -158,7 +159,7 @@ impl<S: Stock> Turns<S> {
     /// Fills a place that was kept, and says whether it did. Where the stock does not take the
     /// thing the place is free again.
     pub fn fill<R: Wait>(&self, rt: &R, back: S::Back) -> bool
-        ensures { (old : TurnStock S) × (new : TurnStock S) × IsCounted S.ready S.room old
+        ensures { (old : TurnStock S) × (new : TurnStock S) × IsDeskCounted S.ready S.room old
             × MatchBool result (TakesBack S.takes S.refuses back old new)
             (TakesNone S.refuses back old) }
     {
@@ -180,7 +181,7 @@ impl<S: Stock> Turns<S> {
 
     /// Keeps a place for a thing that is to come, where there is one: it is filled, or given up.
     pub fn claim<R: Wait>(&self, rt: &R) -> bool
-        ensures { (d : TurnStock S) × IsCounted S.ready S.room d
+        ensures { (d : TurnStock S) × IsDeskCounted S.ready S.room d
             × MatchBool result (HasPlace d.counts)
             (d.counts.ready + d.counts.out ≡ d.counts.room) }
     {

@@ -18,7 +18,7 @@ use Rattle.pgw_prog_answers.specs.declared.page.Stop.{Stop}
 use Rattle.pgw_prog_answers.specs.declared.page.Stop.TheVariants as stop
 use Rattle.pgw_prog_answers.specs.declared.asking.Halt.{Halt}
 use Rattle.pgw_prog_answers.specs.declared.asking.Halt.TheVariants as halt
-use Rattle.pgw_prog_answers.specs.Said.{said_all, said_in, open_columns, opened_behind, said_turn}
+use Rattle.pgw_prog_answers.specs.Said.{said_all, said_rows_in, open_columns, opened_behind, said_turn}
 use Rattle.pgw_prog_answers.specs.Lines.{ServerLine, Stand, none, next, LineBytesCame, Calm, LineTakes, LineFills, NeedsBytes, IsDry, IsLost}
 use Rattle.pgw_prog_answers.specs.Lines.{unreadable, cut_off, unusable}
 use Rattle.pgw_prog_answers.specs.Answers.{columns_open, rest_text}
@@ -92,7 +92,7 @@ printed_on (halt.Stopped why) xs ys a b c p q = front_on xs ys a b c.wrote p q
 said_on : (o : Option ℕ) (xs ys : List Backend)
     → said_all o (xs ++ ys) ≡ said_all o xs ++ said_all (opened_behind o (said_all o xs)) ys
 said_on o [] ys = refl
-said_on o (x ∷ xs) ys = ap (λ (t : List Said). said_in o x ∷ t) (said_on (open_columns o (said_in o x)) xs ys)
+said_on o (x ∷ xs) ys = ap (λ (t : List Said). said_rows_in o x ∷ t) (said_on (open_columns o (said_rows_in o x)) xs ys)
 
 said_behind : (a b : Sheet) (xs ys : List Backend) → PrintsHeard (said_at a xs) a b
     → said_at a (xs ++ ys) ≡ said_at a xs ++ said_at b ys
@@ -370,18 +370,18 @@ stopped_at why old new a b m t (inr f) = one_as (halt.Stopped why) old new a b m
 -- what a message comes to
 pub heard_one : (heard : Result Turn Stop) (old new : ServerLine) (a b : Sheet) (m : Backend)
     → LineTakes old new (Ok (Some m))
-    → IfOk heard (λ t. t ≡ said_turn (said_in (columns_open a.answer) m))
-    → OnOk heard (PrintsHeard (said_in (columns_open a.answer) m ∷ []) a b)
-    → OnErr heard (IsFront [] a b.wrote ⊎ IsFront (said_in (columns_open a.answer) m ∷ []) a b.wrote)
+    → IfOk heard (λ t. t ≡ said_turn (said_rows_in (columns_open a.answer) m))
+    → OnOk heard (PrintsHeard (said_rows_in (columns_open a.answer) m ∷ []) a b)
+    → OnErr heard (IsFront [] a b.wrote ⊎ IsFront (said_rows_in (columns_open a.answer) m ∷ []) a b.wrote)
     → HearsAnswers old new a b (halt_of heard)
 heard_one (Ok turn.GoesOn) old new a b m t is p f =
     one_as halt.GoesOn old new a b m t (λ rest e c. (e, c)) (All-cons
-    (λ s. said_turn s ≡ turn.GoesOn) (said_in (columns_open a.answer) m) [] (sym is) go_none) p
+    (λ s. said_turn s ≡ turn.GoesOn) (said_rows_in (columns_open a.answer) m) [] (sym is) go_none) p
 heard_one (Ok turn.Ready) old new a b m t is p f =
     one_as halt.Ready old new a b m t (λ rest e c. (e, c)) (ends_one
-    turn.Ready (said_in (columns_open a.answer) m) (sym is)) p
+    turn.Ready (said_rows_in (columns_open a.answer) m) (sym is)) p
 heard_one (Ok turn.Misplaced) old new a b m t is p f = one_as halt.Misplaced old new a b m t (λ rest e c. (e, c))
-    (ends_one turn.Misplaced (said_in (columns_open a.answer) m) (sym is)) p
+    (ends_one turn.Misplaced (said_rows_in (columns_open a.answer) m) (sym is)) p
 heard_one (Err why) old new a b m t is p f = stopped_at why old new a b m t f
 
 pub one_falls : (old new : ServerLine) (m : Backend) (why : Halt) → LineTakes old new (Ok (Some m))

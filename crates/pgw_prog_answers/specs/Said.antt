@@ -70,8 +70,8 @@ abbrev pub placed : Option ℕ → Said → Said
 placed opened (said.Row values) = said_row opened values
 placed opened s = s
 
-abbrev pub said_in : Option ℕ → Backend → Said
-said_in opened m = placed opened (said_by m)
+abbrev pub said_rows_in : Option ℕ → Backend → Said
+said_rows_in opened m = placed opened (said_by m)
 
 -- how many columns the result has that is open behind it, where one is
 abbrev pub open_columns : Option ℕ → Said → Option ℕ
@@ -88,7 +88,7 @@ opened_behind opened (s ∷ more) = opened_behind (open_columns opened s) more
 abbrev pub said_all : Option ℕ → List Backend → List Said
 said_all opened [] = []
 said_all opened (m ∷ more) =
-    said_in opened m ∷ said_all (open_columns opened (said_in opened m)) more
+    said_rows_in opened m ∷ said_all (open_columns opened (said_rows_in opened m)) more
 
 -- ---- how an answer goes on
 

@@ -3,7 +3,7 @@ ghost use Rattle.std.specs.Prelude.{◌≡◌, ◌⊎◌, ◌≤◌, ◌∷◌, 
 ghost use Rattle.pgw_link.specs.Tape.{HasTapeCause};
 ghost use Rattle.pgw_prog_answers.specs.Answers.{HearsSaid, open_text, columns_open};
 ghost use Rattle.pgw_prog_answers.specs.Pages.{HasStopped, IsFront, PrintsHeard, sheet, whole_text};
-ghost use Rattle.pgw_prog_answers.specs.Said.{is_failed, said_in, said_turn};
+ghost use Rattle.pgw_prog_answers.specs.Said.{is_failed, said_rows_in, said_turn};
 ghost use Rattle.pgw_prog_answers.specs.Written.{WroteFront};
 
 use crate::answer::Answer;
@@ -151,16 +151,16 @@ impl Page {
         errors: &mut E,
     ) -> Result<Turn, Stop>
         ensures turn { IfOk result (λ turn. turn
-            ≡ said_turn (said_in (columns_open self.old.answer) message.now)) }
+            ≡ said_turn (said_rows_in (columns_open self.old.answer) message.now)) }
         ensures calm { OnOk result (O.faults output.new ≡ O.faults output.old) }
         ensures cause { IfErr result (HasStopped (O.faults output.old) (O.faults output.new)) }
         ensures prints { OnOk result (PrintsHeard
-            (said_in (columns_open self.old.answer) message.now ∷ [])
+            (said_rows_in (columns_open self.old.answer) message.now ∷ [])
             (sheet (O.tape output.old).wrote self.old)
             (sheet (O.tape output.new).wrote self.new)) }
         ensures front { OnErr result (IsFront [] (sheet (O.tape output.old).wrote self.old)
             (O.tape output.new).wrote
-            ⊎ IsFront (said_in (columns_open self.old.answer) message.now ∷ [])
+            ⊎ IsFront (said_rows_in (columns_open self.old.answer) message.now ∷ [])
             (sheet (O.tape output.old).wrote self.old) (O.tape output.new).wrote) }
     {
         let said = said_of(alloc, message)?;

@@ -3,7 +3,7 @@ use Rattle.std.proofs.Common.{◌≡◌, ℕ, List, [], ◌∷◌, Bool, true, f
 use Rattle.std.proofs.lemmas.Bool.Decides.{nat_tests}
 use Rattle.std.specs.Cmp.Lexicographic.{pointwise}
 use Rattle.pgw_types.specs.Marks.{behind_word}
-use Rattle.pgw_prog_script.specs.Line.{bytes_in, known, later_line_of, line_of, bound_of, setting_of}
+use Rattle.pgw_prog_script.specs.Line.{bytes_in, known, later_line_of, line_of_cut, bound_of, setting_of}
 use Rattle.pgw_prog_script.specs.declared.line.Line.TheVariants as line
 use Rattle.pgw_prog_script.specs.declared.script.Place.{Place}
 use Rattle.pgw_prog_script.specs.declared.script.Place.TheVariants as place
@@ -40,8 +40,8 @@ begins text v is =
     begins_by text (pointwise nat_eq (take (length (codes "server ")) text) (codes "server ")) refl v is
 
 line_by : (rest v : List ℕ) → behind_word (codes "server ") (115 ∷ rest) ≡ Some v
-    → line_of (115 ∷ rest) ≡ known line.Server (bytes_in v)
-unfolding line_of setting_of bound_of later_line_of
+    → line_of_cut (115 ∷ rest) ≡ known line.Server (bytes_in v)
+unfolding line_of_cut setting_of bound_of later_line_of
 line_by rest v is =
     let config : behind_word (codes "config ") (115 ∷ rest) ≡ None = none 99 (codes "onfig ") 115 rest refl in
     let protocol : behind_word (codes "protocol ") (115 ∷ rest) ≡ None =
@@ -58,7 +58,7 @@ line_by rest v is =
     rw (config, protocol, certificate, nonce, limit, cut, reads, writes, is) refl
 
 pub server_line : (text v : List ℕ) → behind_word (codes "server ") text ≡ Some v
-    → line_of text ≡ known line.Server (bytes_in v)
+    → line_of_cut text ≡ known line.Server (bytes_in v)
 server_line text v is =
     let b = begins text v is in
     rw b.1 (line_by b.0 v (rw b.1 at is))

@@ -75,8 +75,8 @@ setting_of bytes =
     (bound_of bytes)))
 
 -- config TEXT, or another line
-unfoldable pub line_of : List ℕ → Option Line
-line_of bytes =
+unfoldable pub line_of_cut : List ℕ → Option Line
+line_of_cut bytes =
     behind_or (behind_word (codes "config ") bytes) (λ v. known line.Config (text_in v))
     (setting_of bytes)
 

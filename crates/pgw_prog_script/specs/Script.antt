@@ -8,7 +8,7 @@ use Rattle.pgw_prog_script.specs.declared.script.Place.{Place}
 use Rattle.pgw_prog_script.specs.declared.script.Place.TheVariants as place
 use Rattle.pgw_prog_script.specs.Form.{Form}
 use Rattle.pgw_prog_script.specs.Grammar.{IsScriptIn, IsFaultIn}
-use Rattle.pgw_prog_script.specs.Line.{line_of}
+use Rattle.pgw_prog_script.specs.Line.{line_of_cut}
 
 abbrev pub line_place : Line → Place
 line_place (line.Config text) = place.Config
@@ -81,7 +81,7 @@ with_line s (line.Server bs) = record s { server = s.server ++ bs }
 
 abbrev pub session_form : Form Line Place Script
 session_form = record {
-  line_of = line_of;
+  line_of = line_of_cut;
   place_of = line_place;
   may_follow = may_follow;
   may_end = may_end;

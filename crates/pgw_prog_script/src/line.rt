@@ -1,6 +1,6 @@
 //! The lines of a session script.
 ghost use Rattle.std.specs.Prelude.{◌≡◌, ◌<◌, ◌&&◌, IfOk, IfSome, nat_le};
-ghost use Rattle.pgw_prog_script.specs.Line.{version_in, nonce_in, cut_in, bytes_in, later_line_of, bound_of, setting_of, line_of, CutMovesByte};
+ghost use Rattle.pgw_prog_script.specs.Line.{version_in, nonce_in, cut_in, bytes_in, later_line_of, bound_of, setting_of, line_of_cut, CutMovesByte};
 
 use crate::number::read_number;
 use crate::request_line::{read_hex, read_request, read_text};
@@ -136,9 +136,9 @@ fn read_setting(alloc: Global, line: &[u8]) -> Result<Option<Line>, OutOfMemory>
 }
 
 /// What a line says, where it is in the grammar.
-#[tactic(auto, unfolding(crate::specs::Line::line_of))]
+#[tactic(auto, unfolding(crate::specs::Line::line_of_cut))]
 pub fn read_line(alloc: Global, line: &[u8]) -> Result<Option<Line>, OutOfMemory>
-    ensures value { IfOk result (λ o. o ≡ line_of line.now) }
+    ensures value { IfOk result (λ o. o ≡ line_of_cut line.now) }
     ensures moves { IfOk result (λ o. IfSome o CutMovesByte) }
 {
     if let Some(value) = behind_word(b"config ", line) {

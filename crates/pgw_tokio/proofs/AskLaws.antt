@@ -32,7 +32,7 @@ use Rattle.pgw_tokio.specs.declared.asking.Answered.{Answered}
 use Rattle.pgw_tokio.specs.declared.asking.Asking.{Asking}
 use Rattle.pgw_tokio.specs.declared.calling.ClientEngine.{ClientEngine}
 use Rattle.pgw_tokio.specs.declared.client.AsyncClient.{AsyncClient}
-use Rattle.pgw_tokio.specs.Asking.{Asks, FailsToAnswer, Gives, GivesAnswer, IsAboutToAsk, IsBroken, IsUnasked, Outcome, Stays}
+use Rattle.pgw_tokio.specs.Asking.{AsksOverStream, FailsToAnswer, GivesAnswered, GivesAnswer, IsAboutToAsk, IsAskingBroken, IsUnasked, AskingOutcome, Stays}
 use Rattle.pgw_tokio.specs.Calling.{AsksClient, ClientStands, ClientStandsBehind, HandsOut, RequestAnswers, RequestOver, client_members}
 use Rattle.pgw_tokio.specs.Client.{IsUsable, AsyncStands, fault_in, push_in, stream_in}
 use Rattle.pgw_tokio.specs.Failing.{Fails}
@@ -98,7 +98,7 @@ module _ {S : Type 0} (old new : AsyncClient S) (q : Request) (was : IsUsable ol
       ⊥)
       → ((input : Input) (limit : ℕ) (given put : List ℕ) → AsyncStands input limit old given put
       → Fails (input_with_request input q) limit given put t c fault e)
-      → result ≡ Err e → Outcome old q calls new result
+      → result ≡ Err e → AskingOutcome old q calls new result
   failing t c fault e tape push kept faults broken fails is =
       let f : FailsToAnswer old q calls new e = record {
         was = was;
@@ -111,12 +111,12 @@ module _ {S : Type 0} (old new : AsyncClient S) (q : Request) (was : IsUsable ol
             c (push_in new) fault (fault_in new) e (sym tape) (sym push) (sym kept)
             (fails input limit given put stands);
       } in
-      subst (Outcome old q calls new) (sym is) (inr (inr f))
+      subst (AskingOutcome old q calls new) (sym is) (inr (inr f))
 
   over_done : (t : Tape) (h : Mover S ClientEngine) (r : Result Answer ClientError) → result ≡ r
       → h.engine.refusal ≡ None → h.turn ≡ turn.Over → Paced (Some (q ∷ [])) t h → Under t h → h.out ≡ []
       → h.unflushed ≡ false → stream_tape calls ≡ t → stream_errors calls ≡ [] → fault_in new ≡ None
-      → HandsOut h.engine.client (push_in new) r → Outcome old q calls new result
+      → HandsOut h.engine.client (push_in new) r → AskingOutcome old q calls new result
   over_done t h (Ok answer) is refusal over p u empty still tape calm kept hands =
       let sent : (input : Input) (limit : ℕ) (given put : List ℕ) → AsyncStands input limit old given put
       → StandsFor (input_with_request input q) limit h.engine.client (given ++ t.took) (put ++ t.wrote) =
@@ -140,7 +140,7 @@ module _ {S : Type 0} (old new : AsyncClient S) (q : Request) (was : IsUsable ol
             (hands.last (input_with_request input q) limit (given ++ t.took) (put ++ t.wrote)
             (sent input limit given put stands));
       } in
-      subst (Outcome old q calls new) (sym is) g
+      subst (AskingOutcome old q calls new) (sym is) g
   over_done t h (Err e) is refusal over p u empty still tape calm kept hands =
       let never : (input : Input) (limit : ℕ) (given put : List ℕ) → AsyncStands input limit old given put → ⊥ =
       λ input limit given put stands.
@@ -153,7 +153,7 @@ module _ {S : Type 0} (old new : AsyncClient S) (q : Request) (was : IsUsable ol
   over_at : (t : Tape) (h : Mover S ClientEngine) (o : Option ClientError) → h.engine.refusal ≡ o
       → h.turn ≡ turn.Over → Paced (Some (q ∷ [])) t h → Under t h → h.out ≡ [] → h.unflushed ≡ false
       → stream_tape calls ≡ t → stream_errors calls ≡ [] → fault_in new ≡ None
-      → RequestOver h.engine.client o (push_in new) result → Outcome old q calls new result
+      → RequestOver h.engine.client o (push_in new) result → AskingOutcome old q calls new result
   over_at t h None refusal over p u empty still tape calm kept r =
       over_done t h result refl refusal over p u empty still tape calm kept r
   over_at t h (Some e) refusal over p u empty still tape calm kept r =
@@ -169,7 +169,7 @@ module _ {S : Type 0} (old new : AsyncClient S) (q : Request) (was : IsUsable ol
         → stream_tape calls ≡ tape_after t ends → stream_errors calls ≡ error_list (fault_after why None)
         → fault_in new ≡ fault_after why None
         → RequestAnswers mid.engine.client mid.engine.refusal why (push_in new) result
-        → Outcome old q calls new result
+        → AskingOutcome old q calls new result
     outcome_at stop.Over mid last t ends stops p u tape faults kept r =
         let sent =
         subst (λ (h : Mover S ClientEngine). (h.out ≡ []) × (h.unflushed ≡ false)) (sym stops.0) stops.2
@@ -234,7 +234,7 @@ module _ {S : Type 0} (reader : AsyncRead.Ghosts S) (writer : AsyncWrite.Ghosts 
       )
 
   asks_with : stream_in answered.client ≡ moved.stream → h.stream ≡ stream_in old
-      → Outcome old q made answered.client answered.answer → Asks reader writer old q answered
+      → AskingOutcome old q made answered.client answered.answer → AsksOverStream reader writer old q answered
   asks_with stream here outcome = record {
     calls = made;
     trail = subst (λ s. Trail reader writer s made (stream_in answered.client)) here
@@ -247,7 +247,7 @@ module _ {S : Type 0} (reader : AsyncRead.Ghosts S) (writer : AsyncWrite.Ghosts 
       → IsLeft h.engine.client a.answer
       → RequestAnswers moved.engine.client moved.engine.refusal moved.stop (push_in answered.client)
       answered.answer → fault_in answered.client ≡ fault_after moved.stop (fault_in old)
-      → Outcome old q made answered.client answered.answer
+      → AskingOutcome old q made answered.client answered.answer
   went was a still opens left answers kept =
       let ran = came.ran in
       let engine_is : moved.engine ≡ (ran.mid).engine = came.engine_is
@@ -270,19 +270,19 @@ module _ {S : Type 0} (reader : AsyncRead.Ghosts S) (writer : AsyncWrite.Ghosts 
       → PushNotAsked (push_in old) h.engine.client q [] h.out r
       → RequestAnswers moved.engine.client moved.engine.refusal moved.stop (push_in answered.client)
       answered.answer → fault_in answered.client ≡ fault_after moved.stop (fault_in old)
-      → Outcome old q made answered.client answered.answer
+      → AskingOutcome old q made answered.client answered.answer
   unasked was a (Ok p) is still not answers kept = absurd not
   unasked was a (Err e) is still not answers kept =
       let s =
       staying e still (a.turned ∙ ap turn_of is) not.1 not.0 (a.refused ∙ ap refusal_of is) answers kept in
       let u : IsUnasked old q made answered.client e = record { was = was; stays = s.0; cause = not.2 } in
-      subst (Outcome old q made answered.client) (sym s.1) (inr (inl u))
+      subst (AskingOutcome old q made answered.client) (sym s.1) (inr (inl u))
 
   asks_at : (is_usable : Bool) → Decides is_usable (IsUsable old) → IsAboutToAsk is_usable old q h
       → stream_in answered.client ≡ moved.stream
       → RequestAnswers moved.engine.client moved.engine.refusal moved.stop (push_in answered.client)
       answered.answer → fault_in answered.client ≡ fault_after moved.stop (fault_in old)
-      → Asks reader writer old q answered
+      → AsksOverStream reader writer old q answered
   asks_at true decides about stream answers kept =
       let a = about.2 in
       asks_with stream about.0 (elim a.asks [
@@ -292,12 +292,12 @@ module _ {S : Type 0} (reader : AsyncRead.Ghosts S) (writer : AsyncWrite.Ghosts 
   asks_at false decides about stream answers kept =
       let b = about.2 in
       let s = staying client.Broken about.1 b.2 b.3 b.0 b.1 answers kept in
-      let w : IsBroken old q made answered.client client.Broken = record {
+      let w : IsAskingBroken old q made answered.client client.Broken = record {
         was = λ usable. let no = decides.1 usable in cc;
         is = refl;
         stays = s.0;
       } in
-      asks_with stream about.0 (subst (Outcome old q made answered.client) (sym s.1) (inl w))
+      asks_with stream about.0 (subst (AskingOutcome old q made answered.client) (sym s.1) (inl w))
 
 -- ---- the future
 
@@ -334,7 +334,7 @@ module _ {S : Type 0} (reader : AsyncRead.Ghosts S) (writer : AsyncWrite.Ghosts 
       → stream_in answered.client ≡ moved.stream
       → RequestAnswers moved.engine.client moved.engine.refusal moved.stop (push_in answered.client)
       answered.answer → fault_in answered.client ≡ fault_after moved.stop (fault_in old)
-      → Asks reader writer old q answered
+      → AsksOverStream reader writer old q answered
   asks_some None moved answered old q is_usable came decides about stream answers kept = absurd came
   asks_some (Some x) moved answered old q is_usable came decides about stream answers kept =
       asks_at reader writer old q (held_in x) moved answered came is_usable decides about stream answers kept
@@ -344,7 +344,7 @@ module _ {S : Type 0} (reader : AsyncRead.Ghosts S) (writer : AsyncWrite.Ghosts 
       → stream_in answered.client ≡ moved.stream
       → RequestAnswers moved.engine.client moved.engine.refusal moved.stop (push_in answered.client)
       answered.answer → fault_in answered.client ≡ fault_after moved.stop f.fault
-      → Gives reader writer f answered
+      → GivesAnswered reader writer f answered
   gives_by f moved answered came stream answers kept = record {
     moved = moved;
     came = came;

@@ -16,7 +16,7 @@ use Rattle.pgw_session.specs.Input.{Input}
 use Rattle.pgw_tokio_moving.specs.Calls.{Call, Gave, Ended, Wrote, Flushed, Waited, Unread, Unwritten, Unflushed, CallGoesOn, fault_of}
 use Rattle.pgw_tokio_moving.specs.declared.engine.Turn.{Turn}
 use Rattle.pgw_tokio_moving.specs.declared.engine.Turn.TheVariants as turn
-use Rattle.pgw_tokio_moving.specs.Moving.{Mover, Runs, Step}
+use Rattle.pgw_tokio_moving.specs.Moving.{Mover, MovesStreamBytes, Step}
 use Rattle.pgw_client_push.specs.declared.client.PushClient.{PushClient}
 use Rattle.pgw_client_push.specs.Calls.{HasAnswer, IsLeft}
 use Rattle.pgw_client_push.specs.Standing.{IsPushBroken, IsIdle, IsOpen, StandsFor}
@@ -130,7 +130,7 @@ module _ {S : Type 0} (asked : Option (List Request)) where
     paced_call t old new (Unflushed e) on step u = absurd on
 
     pub paced_runs : (t : Tape) (old new : Mover S ClientEngine) (calls : List Call)
-        → Runs reader writer client_members old calls new → Paced t old → Paced (tape_after t calls) new
+        → MovesStreamBytes reader writer client_members old calls new → Paced t old → Paced (tape_after t calls) new
     paced_runs t old new [] runs u = subst (Paced t) runs u
     paced_runs t old new (call ∷ calls) runs u =
         paced_runs (with_call t call) runs.0 new calls runs.3 (paced_call t old runs.0 call runs.1 runs.2 u)
@@ -220,7 +220,7 @@ module _ {S : Type 0} where
       call_on t old new (Unflushed e) on step u = absurd on
 
       pub runs_under : (t : Tape) (old new : Mover S ClientEngine) (calls : List Call)
-          → Runs reader writer client_members old calls new → UnderCall input limit given put t old
+          → MovesStreamBytes reader writer client_members old calls new → UnderCall input limit given put t old
           → UnderCall input limit given put (tape_after t calls) new
       runs_under t old new [] runs u = subst (UnderCall input limit given put t) runs u
       runs_under t old new (call ∷ calls) runs u =

@@ -29,7 +29,7 @@ use Rattle.pgw_tokio.specs.declared.engine.SessionEngine.{SessionEngine}
 use Rattle.pgw_tokio.specs.declared.holding.Ended.{Ended as TheEnded}
 use Rattle.pgw_tokio.specs.declared.holding.SessionFuture.{SessionFuture}
 use Rattle.pgw_tokio.specs.Engine.{StandsAs, StreamStandsBehind, session_members}
-use Rattle.pgw_tokio.specs.Stream.{AnswersAs, Gives, HasBegun, IsAbout, OverStream, WasRefused}
+use Rattle.pgw_tokio.specs.Stream.{AnswersAs, GivesSession, HasBegun, IsAbout, OverStream, WasRefused}
 use Rattle.pgw_tokio.proofs.ContractLaws.{over_stream}
 use Rattle.pgw_tokio.proofs.UnderLaws.{IsSessions}
 
@@ -112,7 +112,7 @@ module _ {S : Type 0} (reader : AsyncRead.Ghosts S) (writer : AsyncWrite.Ghosts 
   pub gives_by : (f : SessionFuture S) (moved : Moved S SessionEngine) (ended : TheEnded S)
       → IsSomeAnd f.moving.state (λ x. CameTo reader writer session_members (held_in x) moved)
       → ended.stream ≡ moved.stream → AnswersAs moved.engine moved.stop ended.answer ended.fault
-      → Gives reader writer f ended
+      → GivesSession reader writer f ended
   gives_by f moved ended came stream answers = record {
     moved = moved;
     came = came;

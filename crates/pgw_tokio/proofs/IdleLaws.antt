@@ -10,7 +10,7 @@ use Rattle.pgw_tokio_moving.specs.declared.engine.Engine as Engine
 use Rattle.pgw_tokio_moving.specs.declared.engine.Turn.TheVariants as turn
 use Rattle.pgw_tokio_moving.specs.declared.exchange.Stop.{Stop}
 use Rattle.pgw_tokio_moving.specs.declared.exchange.Stop.TheVariants as stop
-use Rattle.pgw_tokio_moving.specs.Moving.{Mover, Runs, Step, Stops as Ends_by}
+use Rattle.pgw_tokio_moving.specs.Moving.{Mover, MovesStreamBytes, Step, Stops as Ends_by}
 use Rattle.pgw_tokio.specs.Tape.{with_call, tape_after}
 
 -- nothing is put out, and no more is asked for
@@ -40,7 +40,7 @@ module _ {S E : Type 0} (reader : AsyncRead.Ghosts S) (writer : AsyncWrite.Ghost
   idle_call t old new (Unflushed x) on step i = absurd on
 
   pub idle_runs : (t : Tape) (old new : Mover S E) (calls : List Call)
-      → Runs reader writer engine old calls new → Idle e old → Idle e new × (tape_after t calls ≡ t)
+      → MovesStreamBytes reader writer engine old calls new → Idle e old → Idle e new × (tape_after t calls ≡ t)
   idle_runs t old new [] runs i = (subst (Idle e) runs i, refl)
   idle_runs t old new (call ∷ calls) runs i =
       let c = idle_call t old runs.0 call runs.1 runs.2 i in

@@ -27,7 +27,7 @@ use Rattle.pgw_tokio.specs.Calling.{ClientStands, ClientStandsBehind, LoginOver,
 use Rattle.pgw_tokio.specs.Client.{fault_in, push_in, stream_in}
 use Rattle.pgw_tokio.specs.Failing.{Fails}
 use Rattle.pgw_tokio.specs.Faults.{fault_after}
-use Rattle.pgw_tokio.specs.Login.{EndsLogin, FailsToLogIn, Gives, IsAboutToLogIn, LogsIn, LoginOutcome, stream_of}
+use Rattle.pgw_tokio.specs.Login.{EndsLogin, FailsToLogIn, GivesLogin, IsAboutToLogIn, LogsInOverStream, LoginOutcome, stream_of}
 use Rattle.pgw_tokio.specs.Tape.{stream_errors, error_list, with_call, tape_after, stream_tape}
 use Rattle.pgw_tokio.proofs.CallLaws.{Paced, UnderCall, fails_same, flushed_at, over_ended, over_fault, over_refused, paced_runs, runs_under, sent_all}
 use Rattle.pgw_tokio.proofs.StreamLaws.{calls_faults, calls_of, calls_trail, end_engine, tape_append}
@@ -146,7 +146,7 @@ module _ {S : Type 0} (reader : AsyncRead.Ghosts S) (writer : AsyncWrite.Ghosts 
   logs_at : (input : Input) (limit : ℕ) (first : S) (h : Mover S ClientEngine) (moved : Moved S ClientEngine)
       (result : Result (AsyncClient S) (NotLoggedIn S)) → IsAboutToLogIn input limit first h
       → CameTo reader writer client_members h moved → EndsLogin moved.stream moved.engine moved.stop result
-      → LogsIn reader writer input limit first result
+      → LogsInOverStream reader writer input limit first result
   logs_at input limit first h moved result a came ends =
       let ran = came.ran in
       let made = calls_of reader writer client_members h moved came in
@@ -193,7 +193,7 @@ module _ {S : Type 0} (reader : AsyncRead.Ghosts S) (writer : AsyncWrite.Ghosts 
       → IsSomeAnd o (λ x. CameTo reader writer client_members (held_in x) moved)
       → EndsLogin moved.stream moved.engine moved.stop result → (input : Input) (limit : ℕ) (first : S)
       → IsSomeAnd o (λ x. IsAboutToLogIn input limit first (held_in x))
-      → LogsIn reader writer input limit first result
+      → LogsInOverStream reader writer input limit first result
   logs_some None moved result came ends input limit first about = absurd came
   logs_some (Some x) moved result came ends input limit first about =
       logs_at input limit first (held_in x) moved result about came ends
@@ -201,7 +201,7 @@ module _ {S : Type 0} (reader : AsyncRead.Ghosts S) (writer : AsyncWrite.Ghosts 
   pub gives_by : (f : LoggingIn S) (moved : Moved S ClientEngine)
       (result : Result (AsyncClient S) (NotLoggedIn S))
       → IsSomeAnd f.moving.state (λ x. CameTo reader writer client_members (held_in x) moved)
-      → EndsLogin moved.stream moved.engine moved.stop result → Gives reader writer f result
+      → EndsLogin moved.stream moved.engine moved.stop result → GivesLogin reader writer f result
   gives_by f moved result came ends = record {
     moved = moved;
     came = came;

@@ -10,7 +10,7 @@ use Rattle.pgw_link.specs.Tape.{Tape, new_tape}
 use Rattle.pgw_tokio_moving.specs.Calls.{Call, Gave, Ended, Wrote, Flushed, Waited, Unread, Unwritten, Unflushed, CallGoesOn, Trail}
 use Rattle.pgw_tokio_moving.specs.Calls.{fault_of}
 use Rattle.pgw_tokio_moving.specs.Future.{CameTo}
-use Rattle.pgw_tokio_moving.specs.Moving.{Mover, held_in, Runs, Step, Stops as Ends_by}
+use Rattle.pgw_tokio_moving.specs.Moving.{Mover, held_in, MovesStreamBytes, Step, Stops as Ends_by}
 use Rattle.pgw_tokio_moving.specs.declared.engine.Turn.TheVariants as turn
 use Rattle.pgw_tokio_moving.specs.declared.exchange.Exchange.{Exchange}
 use Rattle.pgw_tokio_moving.specs.declared.exchange.Stop.{Stop}
@@ -20,7 +20,7 @@ use Rattle.pgw_tokio.specs.declared.sending.Sending.{Sending}
 use Rattle.pgw_tokio.specs.declared.sending.Sent.{Sent}
 use Rattle.pgw_tokio.specs.declared.sending.Silent.{Silent}
 use Rattle.pgw_tokio.specs.Faults.{fault_after}
-use Rattle.pgw_tokio.specs.Sending.{EndsSending, Gives, IsAboutToSend, SendingOutcome, Sends, SentOver, silent_members}
+use Rattle.pgw_tokio.specs.Sending.{EndsSending, GivesSent, IsAboutToSend, SendingOutcome, SendsOverStream, SentOver, silent_members}
 use Rattle.pgw_tokio.specs.Tape.{error_list, with_call, tape_after, stream_tape}
 use Rattle.pgw_tokio.proofs.StreamLaws.{calls_faults, calls_of, calls_trail, tape_append}
 use Rattle.pgw_tokio.proofs.UnderLaws.{Flushing, flushed_in}
@@ -62,7 +62,8 @@ module _ {S : Type 0} (bytes : List ℕ) where
     call_on t old new (Unflushed x) on step u = absurd on
 
     runs_on : (t : Tape) (old new : Mover S Silent) (calls : List Call)
-        → Runs reader writer silent_members old calls new → UnderSend t old → UnderSend (tape_after t calls) new
+        → MovesStreamBytes reader writer silent_members old calls new → UnderSend t old
+        → UnderSend (tape_after t calls) new
     runs_on t old new [] runs u = subst (UnderSend t) runs u
     runs_on t old new (call ∷ calls) runs u =
         runs_on (with_call t call) runs.0 new calls runs.3 (call_on t old runs.0 call runs.1 runs.2 u)
@@ -138,7 +139,7 @@ module _ {S : Type 0} (reader : AsyncRead.Ghosts S) (writer : AsyncWrite.Ghosts 
   sends_at : (stream : S) (bytes : List ℕ) (refusal : Option ClientError) (h : Mover S Silent)
       (moved : Moved S Silent) (sent : Sent S) → IsAboutToSend stream bytes h
       → CameTo reader writer silent_members h moved → EndsSending moved.stream moved.stop refusal sent
-      → Sends reader writer stream bytes refusal sent
+      → SendsOverStream reader writer stream bytes refusal sent
   sends_at stream bytes refusal h moved sent a came ends =
       let ran = came.ran in
       let made = calls_of reader writer silent_members h moved came in
@@ -168,7 +169,8 @@ module _ {S : Type 0} (reader : AsyncRead.Ghosts S) (writer : AsyncWrite.Ghosts 
       (earlier refusal : Option ClientError)
       → IsSomeAnd o (λ x. CameTo reader writer silent_members (held_in x) moved)
       → EndsSending moved.stream moved.stop earlier sent → (stream : S) (bytes : List ℕ) → earlier ≡ refusal
-      → IsSomeAnd o (λ x. IsAboutToSend stream bytes (held_in x)) → Sends reader writer stream bytes refusal sent
+      → IsSomeAnd o (λ x. IsAboutToSend stream bytes (held_in x))
+      → SendsOverStream reader writer stream bytes refusal sent
   sends_some None moved sent earlier refusal came ends stream bytes same about = absurd came
   sends_some (Some x) moved sent earlier refusal came ends stream bytes same about =
       sends_at stream bytes refusal (held_in x) moved sent about came
@@ -176,7 +178,7 @@ module _ {S : Type 0} (reader : AsyncRead.Ghosts S) (writer : AsyncWrite.Ghosts 
 
   pub gives_by : (f : Sending S) (moved : Moved S Silent) (sent : Sent S)
       → IsSomeAnd f.moving.state (λ x. CameTo reader writer silent_members (held_in x) moved)
-      → EndsSending moved.stream moved.stop f.refusal sent → Gives reader writer f sent
+      → EndsSending moved.stream moved.stop f.refusal sent → GivesSent reader writer f sent
   gives_by f moved sent came ends = record {
     moved = moved;
     came = came;

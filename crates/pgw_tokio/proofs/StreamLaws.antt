@@ -7,7 +7,7 @@ use Rattle.pgw_link.specs.Tape.{Tape}
 use Rattle.pgw_tokio_moving.specs.declared.engine.Engine as Engine
 use Rattle.pgw_tokio_moving.specs.Calls.{Call, Gave, Ended, Wrote, Flushed, Waited, Unread, Unwritten, Unflushed, CallGoesOn, Trail, fault_of}
 use Rattle.pgw_tokio_moving.specs.Future.{CameTo}
-use Rattle.pgw_tokio_moving.specs.Moving.{Mover, Runs, Step, Stops as Ends_by}
+use Rattle.pgw_tokio_moving.specs.Moving.{Mover, MovesStreamBytes, Step, Stops as Ends_by}
 use Rattle.pgw_tokio_moving.specs.declared.exchange.Stop.{Stop}
 use Rattle.pgw_tokio_moving.specs.declared.exchange.Stop.TheVariants as stop
 use Rattle.pgw_tokio_moving.specs.declared.moving.Moved.{Moved}
@@ -39,7 +39,7 @@ no_fault (Unflushed e) on = absurd on
 module _ {S E : Type 0} (reader : AsyncRead.Ghosts S) (writer : AsyncWrite.Ghosts S)
     (engine : Engine.Ghosts E)
   where
-    pub trail_on : (a b : Mover S E) (c : S) (calls more : List Call) → Runs reader writer engine a calls b
+    pub trail_on : (a b : Mover S E) (c : S) (calls more : List Call) → MovesStreamBytes reader writer engine a calls b
         → Trail reader writer b.stream more c → Trail reader writer a.stream (calls ++ more) c
     trail_on a b c [] more runs t = subst (λ (h : Mover S E). Trail reader writer h.stream more c) (sym runs) t
     trail_on a b c (call ∷ calls) more runs t = (
@@ -48,7 +48,7 @@ module _ {S E : Type 0} (reader : AsyncRead.Ghosts S) (writer : AsyncWrite.Ghost
       trail_on runs.0 b c calls more runs.3 t,
     )
 
-    pub clean : (a b : Mover S E) (calls : List Call) → Runs reader writer engine a calls b
+    pub clean : (a b : Mover S E) (calls : List Call) → MovesStreamBytes reader writer engine a calls b
         → stream_errors calls ≡ []
     clean a b [] runs = refl
     clean a b (call ∷ calls) runs = ap (λ o. error_list o ++ stream_errors calls) (no_fault call runs.1)

@@ -23,7 +23,7 @@ use Rattle.pgw_tokio_moving.specs.Calls.{Call, Gave, Ended, Wrote, Flushed, Wait
 use Rattle.pgw_tokio_moving.specs.declared.engine.Engine as Engine
 use Rattle.pgw_tokio_moving.specs.declared.engine.Turn.{Turn}
 use Rattle.pgw_tokio_moving.specs.declared.engine.Turn.TheVariants as turn
-use Rattle.pgw_tokio_moving.specs.Moving.{Mover, Runs, Step}
+use Rattle.pgw_tokio_moving.specs.Moving.{Mover, MovesStreamBytes, Step}
 use Rattle.pgw_tokio.specs.declared.engine.SessionEngine.{SessionEngine}
 use Rattle.pgw_tokio.specs.Engine.{Feeds, StandsAs}
 use Rattle.pgw_tokio.specs.First.{refusal_of, turn_of}
@@ -265,7 +265,7 @@ module _ {S : Type 0} (reader : AsyncRead.Ghosts S) (writer : AsyncWrite.Ghosts 
   call_on are input limit t old new (Unflushed e) on step u = absurd on
 
   pub runs_on : IsSessions → (input : Input) (limit : ℕ) (t : Tape) (old new : Mover S SessionEngine)
-      (calls : List Call) → Runs reader writer engine old calls new → UnderWay input limit t old
+      (calls : List Call) → MovesStreamBytes reader writer engine old calls new → UnderWay input limit t old
       → UnderWay input limit (tape_after t calls) new
   runs_on are input limit t old new [] runs u = subst (UnderWay input limit t) runs u
   runs_on are input limit t old new (call ∷ calls) runs u =

@@ -57,7 +57,7 @@ module _ {S : Type 0} (old : AsyncClient S) (q : Request) (calls : List Call)
         (put ++ (stream_tape calls).wrote) answer
 
   -- an earlier call failed
-  pub record IsBroken (e : ClientError) : Type 0 where
+  pub record IsAskingBroken (e : ClientError) : Type 0 where
     pub was : IsUsable old → ⊥
     pub is : e ≡ client.Broken
     pub stays : Stays
@@ -83,17 +83,18 @@ module _ {S : Type 0} (old : AsyncClient S) (q : Request) (calls : List Call)
         → Fails (input_with_request input q) limit given put (stream_tape calls) (push_in new)
         (fault_in new) e
 
-  abbrev pub Outcome : Result Answer ClientError → Type 0
-  Outcome (Ok answer) = GivesAnswer answer
-  Outcome (Err e) = IsBroken e ⊎ (IsUnasked e ⊎ FailsToAnswer e)
+  abbrev pub AskingOutcome : Result Answer ClientError → Type 0
+  AskingOutcome (Ok answer) = GivesAnswer answer
+  AskingOutcome (Err e) = IsAskingBroken e ⊎ (IsUnasked e ⊎ FailsToAnswer e)
 
 -- What is promised of a request over a stream: calls were made, which the stream's own members tell, and what they came
 -- to. What each call did besides is `came` of what the future gives.
 module _ {S : Type 0} (reader : AsyncRead.Ghosts S) (writer : AsyncWrite.Ghosts S) where
-  pub record Asks (old : AsyncClient S) (q : Request) (answered : Answered S) : Type 0 where
-    pub calls : List Call
-    pub trail : Trail reader writer (stream_in old) calls (stream_in answered.client)
-    pub outcome : Outcome old q calls answered.client answered.answer
+  pub record AsksOverStream (old : AsyncClient S) (q : Request) (answered : Answered S) : Type 0
+    where
+      pub calls : List Call
+      pub trail : Trail reader writer (stream_in old) calls (stream_in answered.client)
+      pub outcome : AskingOutcome old q calls answered.client answered.answer
 
 -- ---- how it begins
 
@@ -120,7 +121,7 @@ CanAsk f = IsSomeAnd f.moving.state (λ x. ClientStands x.engine x.turn)
 module _ {S : Type 0} (reader : AsyncRead.Ghosts S) (writer : AsyncWrite.Ghosts S) where
   -- Calls were made, as `pgw_tokio_moving` tells them, and it is answered by why no more was moved; so it is what is
   -- promised of a request, where it was about to ask one.
-  pub record Gives (f : Asking S) (answered : Answered S) : Type 0 where
+  pub record GivesAnswered (f : Asking S) (answered : Answered S) : Type 0 where
     pub moved : Moved S ClientEngine
     pub came : IsSomeAnd f.moving.state (λ x. CameTo reader writer client_members (held_in x)
         moved)
@@ -129,4 +130,4 @@ module _ {S : Type 0} (reader : AsyncRead.Ghosts S) (writer : AsyncWrite.Ghosts 
         (push_in answered.client) answered.answer
     pub fault : fault_in answered.client ≡ fault_after moved.stop f.fault
     pub asks : (old : AsyncClient S) (q : Request) → IsAskingOf old q f
-        → Asks reader writer old q answered
+        → AsksOverStream reader writer old q answered

@@ -69,7 +69,7 @@ stream_of (Err n) = n.stream
 -- What is promised of a login over a stream: calls were made, which the stream's own members tell, and what they came to.
 -- What each call did besides is `came` of what the future gives.
 module _ {S : Type 0} (reader : AsyncRead.Ghosts S) (writer : AsyncWrite.Ghosts S) where
-  pub record LogsIn (input : Input) (limit : ℕ) (first : S)
+  pub record LogsInOverStream (input : Input) (limit : ℕ) (first : S)
       (result : Result (AsyncClient S) (NotLoggedIn S)) : Type 0 where
     pub calls : List Call
     pub trail : Trail reader writer first calls (stream_of result)
@@ -112,11 +112,11 @@ EndsLogin stream e why (Err n) =
 module _ {S : Type 0} (reader : AsyncRead.Ghosts S) (writer : AsyncWrite.Ghosts S) where
   -- Calls were made, as `pgw_tokio_moving` tells them, and it is answered by why no more was moved; so it is what is
   -- promised of a login, where it was about to log in.
-  pub record Gives (f : LoggingIn S) (result : Result (AsyncClient S) (NotLoggedIn S)) : Type 0
+  pub record GivesLogin (f : LoggingIn S) (result : Result (AsyncClient S) (NotLoggedIn S)) : Type 0
     where
       pub moved : Moved S ClientEngine
       pub came : IsSomeAnd f.moving.state
           (λ x. CameTo reader writer client_members (held_in x) moved)
       pub ends : EndsLogin moved.stream moved.engine moved.stop result
       pub logs : (input : Input) (limit : ℕ) (first : S) → IsLoginOf input limit first f
-          → LogsIn reader writer input limit first result
+          → LogsInOverStream reader writer input limit first result

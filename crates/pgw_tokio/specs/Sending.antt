@@ -51,7 +51,8 @@ SendingOutcome bytes refusal calls (Some f) (Err e) =
 
 -- calls were made, which the stream's own members tell, that gave no byte
 module _ {S : Type 0} (reader : AsyncRead.Ghosts S) (writer : AsyncWrite.Ghosts S) where
-  pub record Sends (stream : S) (bytes : List ℕ) (refusal : Option ClientError) (sent : Sent S) :
+  pub record SendsOverStream (stream : S) (bytes : List ℕ) (refusal : Option ClientError)
+      (sent : Sent S) :
       Type 0 where
     pub calls : List Call
     pub trail : Trail reader writer stream calls sent.stream
@@ -91,10 +92,10 @@ EndsSending stream why refusal sent =
 
 module _ {S : Type 0} (reader : AsyncRead.Ghosts S) (writer : AsyncWrite.Ghosts S) where
   -- Calls were made, as `pgw_tokio_moving` tells them; so it is all that is promised of bytes that it was about to write.
-  pub record Gives (f : Sending S) (sent : Sent S) : Type 0 where
+  pub record GivesSent (f : Sending S) (sent : Sent S) : Type 0 where
     pub moved : Moved S Silent
     pub came : IsSomeAnd f.moving.state
         (λ x. CameTo reader writer silent_members (held_in x) moved)
     pub ends : EndsSending moved.stream moved.stop f.refusal sent
     pub sends : (stream : S) (bytes : List ℕ) (refusal : Option ClientError)
-        → IsToSend stream bytes refusal f → Sends reader writer stream bytes refusal sent
+        → IsToSend stream bytes refusal f → SendsOverStream reader writer stream bytes refusal sent

@@ -108,7 +108,7 @@ AnswersAs e (stop.Fault f) answer fault = (answer ≡ Err client.IoError) × (fa
 module _ {S : Type 0} (reader : AsyncRead.Ghosts S) (writer : AsyncWrite.Ghosts S) where
   -- What the future gives. Calls were made, as `pgw_tokio_moving` tells them, and it is answered by why no more was moved;
   -- so it is all that is promised of a session, where it was about to hold one.
-  pub record Gives (f : SessionFuture S) (ended : Ended S) : Type 0 where
+  pub record GivesSession (f : SessionFuture S) (ended : Ended S) : Type 0 where
     pub moved : Moved S SessionEngine
     pub came : IsSomeAnd f.moving.state (λ x. CameTo reader writer session_members (held_in x)
         moved)

@@ -1,7 +1,7 @@
 //! A request that was asked over a stream that may keep one waiting.
 ghost use Rattle.std.specs.Prelude.{◌≡◌, IsSomeAnd};
 ghost use Rattle.pgw_tokio_moving.specs.Moving.{held_in, WaitsFor};
-ghost use Rattle.pgw_tokio.specs.Asking.{CanAsk, Gives};
+ghost use Rattle.pgw_tokio.specs.Asking.{CanAsk, GivesAnswered};
 ghost use Rattle.pgw_tokio.specs.Calling.{ClientStandsBehind, RequestAnswers};
 ghost use Rattle.pgw_tokio.specs.Faults.{fault_after};
 
@@ -68,7 +68,7 @@ impl<S: AsyncRead + AsyncWrite> Future for Asking<S> {
     ghost needs = { λ f source. IsSomeAnd f.moving.state
         (λ x. WaitsFor S.AsyncRead S.AsyncWrite (held_in x) source) };
 
-    ghost gives = { Gives S.AsyncRead S.AsyncWrite };
+    ghost gives = { GivesAnswered S.AsyncRead S.AsyncWrite };
 
     fn poll(&mut self, cx: &mut Context<'_>) -> Poll<Answered<S>> {
         match self.moving.poll(cx) {

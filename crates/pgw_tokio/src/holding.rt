@@ -3,7 +3,7 @@ ghost use Rattle.std.specs.Prelude.{◌≡◌, IfOk, IsSomeAnd};
 ghost use Rattle.pgw_tokio_moving.specs.Moving.{held_in, WaitsFor};
 ghost use Rattle.pgw_session.specs.Input.{input_with};
 ghost use Rattle.pgw_tokio.specs.Engine.{StreamStandsBehind};
-ghost use Rattle.pgw_tokio.specs.Stream.{AnswersAs, CanPoll, Gives, IsSessionOf};
+ghost use Rattle.pgw_tokio.specs.Stream.{AnswersAs, CanPoll, GivesSession, IsSessionOf};
 
 use crate::engine::SessionEngine;
 use bytes::BytesMut;
@@ -92,7 +92,7 @@ impl<S: AsyncRead + AsyncWrite> Future for SessionFuture<'_, S> {
     ghost needs = { λ f source. IsSomeAnd f.moving.state
         (λ x. WaitsFor S.AsyncRead S.AsyncWrite (held_in x) source) };
 
-    ghost gives = { Gives S.AsyncRead S.AsyncWrite };
+    ghost gives = { GivesSession S.AsyncRead S.AsyncWrite };
 
     fn poll(&mut self, cx: &mut Context<'_>) -> Poll<Ended<S>> {
         match self.moving.poll(cx) {

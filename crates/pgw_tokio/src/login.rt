@@ -4,7 +4,7 @@ ghost use Rattle.pgw_tokio_moving.specs.Moving.{held_in, WaitsFor};
 ghost use Rattle.pgw_session.specs.Demands.{refused_config};
 ghost use Rattle.pgw_session.specs.Input.{input_with};
 ghost use Rattle.pgw_tokio.specs.Calling.{ClientStandsBehind};
-ghost use Rattle.pgw_tokio.specs.Login.{StreamCanLogIn, EndsLogin, Gives, IsLoginOf, IsUnbegun, RefusesLogin};
+ghost use Rattle.pgw_tokio.specs.Login.{StreamCanLogIn, EndsLogin, GivesLogin, IsLoginOf, IsUnbegun, RefusesLogin};
 
 use crate::calling::{ClientEngine, fault_after};
 use crate::client::AsyncClient;
@@ -120,7 +120,7 @@ impl<S: AsyncRead + AsyncWrite> Future for LoggingIn<S> {
     ghost needs = { λ f source. IsSomeAnd f.moving.state
         (λ x. WaitsFor S.AsyncRead S.AsyncWrite (held_in x) source) };
 
-    ghost gives = { Gives S.AsyncRead S.AsyncWrite };
+    ghost gives = { GivesLogin S.AsyncRead S.AsyncWrite };
 
     fn poll(&mut self, cx: &mut Context<'_>) -> Poll<Result<AsyncClient<S>, NotLoggedIn<S>>> {
         match self.moving.poll(cx) {

@@ -1,7 +1,7 @@
 //! Bytes that are written over a stream, with nothing awaited.
 ghost use Rattle.std.specs.Prelude.{◌≡◌, [], IsSomeAnd};
 ghost use Rattle.pgw_tokio_moving.specs.Moving.{held_in, WaitsFor};
-ghost use Rattle.pgw_tokio.specs.Sending.{CanSend, EndsSending, Gives, IsToSend, SilentFeeds, SilentStands, one_is_there};
+ghost use Rattle.pgw_tokio.specs.Sending.{CanSend, EndsSending, GivesSent, IsToSend, SilentFeeds, SilentStands, one_is_there};
 
 use bytes::BytesMut;
 use futures::Future;
@@ -101,7 +101,7 @@ impl<S: AsyncRead + AsyncWrite> Future for Sending<S> {
     ghost needs = { λ f source. IsSomeAnd f.moving.state
         (λ x. WaitsFor S.AsyncRead S.AsyncWrite (held_in x) source) };
 
-    ghost gives = { Gives S.AsyncRead S.AsyncWrite };
+    ghost gives = { GivesSent S.AsyncRead S.AsyncWrite };
 
     fn poll(&mut self, cx: &mut Context<'_>) -> Poll<Sent<S>> {
         match self.moving.poll(cx) {

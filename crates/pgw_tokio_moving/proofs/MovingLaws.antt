@@ -20,7 +20,7 @@ use Rattle.pgw_tokio_moving.specs.Future.{CameTo}
 use Rattle.pgw_tokio_moving.specs.declared.engine.Turn.{Turn}
 use Rattle.pgw_tokio_moving.specs.declared.engine.Turn.TheVariants.{More, Over}
 use Rattle.pgw_tokio_moving.specs.Calls.{Call, Gave, Ended, Wrote, Flushed, Waited, Unread, Unwritten, Unflushed, CallGoesOn, fault_of}
-use Rattle.pgw_tokio_moving.specs.Moving.{Mover, IsSameButStream, IsSent, Met, Polled, Ran, Runs, Step, WaitsFor}
+use Rattle.pgw_tokio_moving.specs.Moving.{Mover, IsSameButStream, IsSent, Met, PolledStream, Ran, MovesStreamBytes, Step, WaitsFor}
 
 -- no byte is there
 pub no_bytes : (bytes : List ℕ) → (0 < length bytes → ⊥) → bytes ≡ []
@@ -39,11 +39,11 @@ module _ {S E : Type 0} (reader : AsyncRead.Ghosts S) (writer : AsyncWrite.Ghost
   where
     -- what a poll did that did not fail, and one that failed
     abbrev pub Going : Mover S E → Mover S E → Type 0
-    Going old new = (calls : List Call) × (mid : Mover S E) × Runs reader writer engine old calls mid ×
+    Going old new = (calls : List Call) × (mid : Mover S E) × MovesStreamBytes reader writer engine old calls mid ×
         (mid ≡ new)
 
     abbrev pub Broken : Mover S E → Mover S E → Error → Type 0
-    Broken old new e = (calls : List Call) × (mid : Mover S E) × Runs reader writer engine old calls mid ×
+    Broken old new e = (calls : List Call) × (mid : Mover S E) × MovesStreamBytes reader writer engine old calls mid ×
         ((last : Call) × (fault_of last ≡ Some e) × Step reader writer engine mid last new)
 
     -- one that goes on
@@ -66,11 +66,11 @@ module _ {S E : Type 0} (reader : AsyncRead.Ghosts S) (writer : AsyncWrite.Ghost
         → CallGoesOn again → Step reader writer engine old again new
         → fault_of call ≡ Some e → Step reader writer engine old call new
         → (r ≡ Ready (Err e)) ⊎ (r ≡ Pending)
-        → Polled reader writer engine old new r
+        → PolledStream reader writer engine old new r
     failing {T} old new again call e r on waits is fails (inl failed) =
-        subst (Polled reader writer engine {T = T} old new) (sym failed) (breaking old new call e is fails)
+        subst (PolledStream reader writer engine {T = T} old new) (sym failed) (breaking old new call e is fails)
     failing {T} old new again call e r on waits is fails (inr pending) =
-        subst (Polled reader writer engine {T = T} old new) (sym pending) (going old new again on waits)
+        subst (PolledStream reader writer engine {T = T} old new) (sym pending) (going old new again on waits)
 
     pub met_failing : (old new : Mover S E) (again call : Call) (e : Error) (r : Poll (Result Bool Error))
         → CallGoesOn again → Step reader writer engine old again new
@@ -84,40 +84,40 @@ module _ {S E : Type 0} (reader : AsyncRead.Ghosts S) (writer : AsyncWrite.Ghost
 
     -- ---- more calls
 
-    pub runs_on : (a b c : Mover S E) (first second : List Call) → Runs reader writer engine a first b
-        → Runs reader writer engine b second c → Runs reader writer engine a (first ++ second) c
-    runs_on a b c [] second p q = subst (λ h. Runs reader writer engine h second c) (sym p) q
+    pub runs_on : (a b c : Mover S E) (first second : List Call) → MovesStreamBytes reader writer engine a first b
+        → MovesStreamBytes reader writer engine b second c → MovesStreamBytes reader writer engine a (first ++ second) c
+    runs_on a b c [] second p q = subst (λ h. MovesStreamBytes reader writer engine h second c) (sym p) q
     runs_on a b c (call ∷ first) second p q = (p.0, p.1, p.2, runs_on p.0 b c first second p.3 q)
 
     -- behind some calls
     abbrev pub Went : Mover S E → Mover S E → Type 0
-    Went a b = (calls : List Call) × Runs reader writer engine a calls b
+    Went a b = (calls : List Call) × MovesStreamBytes reader writer engine a calls b
 
     -- behind a poll that did not fail
     pub went_on : (a b c : Mover S E) → Went a b → Going b c → Went a c
     went_on a b c w p = (
       w.0 ++ p.0,
-      subst (Runs reader writer engine a (w.0 ++ p.0)) p.3
+      subst (MovesStreamBytes reader writer engine a (w.0 ++ p.0)) p.3
           (runs_on a b p.1 w.0 p.0 w.1 p.2),
     )
 
     pub polled_on : {T : Type 0} (a b c : Mover S E) (r : Poll (Result T Error)) → Went a b
-        → Polled reader writer engine b c r → Polled reader writer engine a c r
+        → PolledStream reader writer engine b c r → PolledStream reader writer engine a c r
     polled_on a b c r w p = (w.0 ++ p.0, p.1, runs_on a b p.1 w.0 p.0 w.1 p.2, p.3)
 
     pub polled_by : {T : Type 0} (a b c : Mover S E) (r s : Poll (Result T Error)) → r ≡ s → Went a b
-        → Polled reader writer engine b c r → Polled reader writer engine a c s
+        → PolledStream reader writer engine b c r → PolledStream reader writer engine a c s
     polled_by {T} a b c r s is w p = polled_on a b c s w
-        (subst (Polled reader writer engine {T = T} b c) is p)
+        (subst (PolledStream reader writer engine {T = T} b c) is p)
 
     pub went_pending : {T : Type 0} (a b c : Mover S E) (r : Poll (Result T Error)) → r ≡ Pending → Went a b
-        → Polled reader writer engine b c r → Went a c
-    went_pending {T} a b c r is w p = went_on a b c w (subst (Polled reader writer engine {T = T} b c) is p)
+        → PolledStream reader writer engine b c r → Went a c
+    went_pending {T} a b c r is w p = went_on a b c w (subst (PolledStream reader writer engine {T = T} b c) is p)
 
     pub went_ok : {T : Type 0} (a b c : Mover S E) (r : Poll (Result T Error)) (value : T)
         → r ≡ Ready (Ok value)
-        → Went a b → Polled reader writer engine b c r → Went a c
-    went_ok {T} a b c r value is w p = went_on a b c w (subst (Polled reader writer engine {T = T} b c) is p)
+        → Went a b → PolledStream reader writer engine b c r → Went a c
+    went_ok {T} a b c r value is w p = went_on a b c w (subst (PolledStream reader writer engine {T = T} b c) is p)
 
     pub met_pending : (a b c : Mover S E) (r : Poll (Result Bool Error)) → r ≡ Pending → Went a b
         → Met reader writer engine b c r → Went a c
@@ -156,9 +156,9 @@ module _ {S E : Type 0} (reader : AsyncRead.Ghosts S) (writer : AsyncWrite.Ghost
 
     pub ran_fault : {T : Type 0} (a b c : Mover S E) (r : Poll (Result T Error)) (e : Error)
         → r ≡ Ready (Err e)
-        → Went a b → Polled reader writer engine b c r → Ran reader writer engine a (stop.Fault e) c
+        → Went a b → PolledStream reader writer engine b c r → Ran reader writer engine a (stop.Fault e) c
     ran_fault {T} a b c r e is w p = broken_by a b c e w
-        (subst (Polled reader writer engine {T = T} b c) is p)
+        (subst (PolledStream reader writer engine {T = T} b c) is p)
 
     pub met_fault : (a b c : Mover S E) (r : Poll (Result Bool Error)) (e : Error) → r ≡ Ready (Err e)
         → Went a b
@@ -271,7 +271,7 @@ module _ {S E : Type 0} (reader : AsyncRead.Ghosts S) (writer : AsyncWrite.Ghost
         → writer.writes old.stream (bytes_moved r old.out) stream
         → out ≡ drop (count_moved r) old.out → IfReadyErr r (writer.fails stream) → 0 < length old.out
         → (p ≡ Ready (Err e)) ⊎ (p ≡ Pending)
-        → Polled reader writer engine old (moved_to old stream out old.unflushed) p
+        → PolledStream reader writer engine old (moved_to old stream out old.unflushed) p
     write_failed old stream out e Pending p is writes rest fails some which = cc
     write_failed old stream out e (Ready (Ok m)) p is writes rest fails some which = cc
     write_failed old stream out e (Ready (Err x)) p is writes rest fails some which =
@@ -298,7 +298,7 @@ module _ {S E : Type 0} (reader : AsyncRead.Ghosts S) (writer : AsyncWrite.Ghost
     pub flush_failed : {T : Type 0} (old : Mover S E) (stream : S) (e : Error) (r : Poll (Result Unit Error))
         (p : Poll (Result T Error)) → r ≡ Ready (Err e) → writer.writes old.stream [] stream
         → IfReadyErr r (writer.fails stream) → old.out ≡ [] → old.unflushed ≡ true
-        → (p ≡ Ready (Err e)) ⊎ (p ≡ Pending) → Polled reader writer engine old
+        → (p ≡ Ready (Err e)) ⊎ (p ≡ Pending) → PolledStream reader writer engine old
         (moved_to old stream old.out old.unflushed) p
     flush_failed old stream e Pending p is writes fails empty some which = cc
     flush_failed old stream e (Ready (Ok x)) p is writes fails empty some which = cc
@@ -320,7 +320,7 @@ module _ {S E : Type 0} (reader : AsyncRead.Ghosts S) (writer : AsyncWrite.Ghost
     pub read_ended : (old : Mover S E) (stream : S) (piece : List ℕ) (r : Poll (Result ℕ Error))
         → r ≡ Ready (Ok 0)
         → reader.reads old.stream (bytes_moved r piece) stream → (r ≡ Ready (Ok 0) → reader.is_at_end stream)
-        → IsSent old → old.turn ≡ More → (calls : List Call) × (mid : Mover S E) × Runs reader writer engine
+        → IsSent old → old.turn ≡ More → (calls : List Call) × (mid : Mover S E) × MovesStreamBytes reader writer engine
         old calls
         mid × Step reader writer engine mid Ended (moved_to old stream old.out old.unflushed)
     read_ended old stream piece Pending is reads end sent more = cc

@@ -34,17 +34,18 @@ CallGoesOn c = Unit {0}
 
 module _ {S : Type 0} (reader : AsyncRead.Ghosts S) (writer : AsyncWrite.Ghosts S) where
   -- the call led the stream from a to b
-  abbrev pub Did : S → Call → S → Type 0
-  Did a (Gave bytes) b = reader.reads a bytes b × (0 < length bytes)
-  Did a Ended b = reader.reads a [] b × reader.is_at_end b
-  Did a (Wrote bytes) b = writer.writes a bytes b × (0 < length bytes)
-  Did a Flushed b = writer.writes a [] b × writer.is_flushed b
-  Did a Waited b = reader.reads a [] b ⊎ writer.writes a [] b
-  Did a (Unread e) b = reader.reads a [] b × reader.fails b e
-  Did a (Unwritten e) b = writer.writes a [] b × WriteFails writer.fails writer.is_full b e
-  Did a (Unflushed e) b = writer.writes a [] b × writer.fails b e
+  abbrev pub DidStreamCall : S → Call → S → Type 0
+  DidStreamCall a (Gave bytes) b = reader.reads a bytes b × (0 < length bytes)
+  DidStreamCall a Ended b = reader.reads a [] b × reader.is_at_end b
+  DidStreamCall a (Wrote bytes) b = writer.writes a bytes b × (0 < length bytes)
+  DidStreamCall a Flushed b = writer.writes a [] b × writer.is_flushed b
+  DidStreamCall a Waited b = reader.reads a [] b ⊎ writer.writes a [] b
+  DidStreamCall a (Unread e) b = reader.reads a [] b × reader.fails b e
+  DidStreamCall a (Unwritten e) b = writer.writes a [] b
+      × WriteFails writer.fails writer.is_full b e
+  DidStreamCall a (Unflushed e) b = writer.writes a [] b × writer.fails b e
 
   -- these calls did, one after the other
   abbrev pub Trail : S → List Call → S → Type 0
   Trail a [] b = a ≡ b
-  Trail a (call ∷ calls) b = (mid : S) × Did a call mid × Trail mid calls b
+  Trail a (call ∷ calls) b = (mid : S) × DidStreamCall a call mid × Trail mid calls b

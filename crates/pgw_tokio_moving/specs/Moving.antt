@@ -11,7 +11,7 @@ use Rattle.pgw_tokio_moving.specs.declared.engine.Turn.TheVariants.{More, Over}
 use Rattle.pgw_tokio_moving.specs.declared.exchange.Exchange.{Exchange}
 use Rattle.pgw_tokio_moving.specs.declared.exchange.Stop.{Stop}
 use Rattle.pgw_tokio_moving.specs.declared.exchange.Stop.TheVariants as stop
-use Rattle.pgw_tokio_moving.specs.Calls.{Call, Gave, Ended, Wrote, Flushed, Waited, Unread, Unwritten, Unflushed, CallGoesOn, Did, fault_of}
+use Rattle.pgw_tokio_moving.specs.Calls.{Call, Gave, Ended, Wrote, Flushed, Waited, Unread, Unwritten, Unflushed, CallGoesOn, DidStreamCall, fault_of}
 
 -- a stream, an engine with what it answered last, what it put out and is not written yet, and whether anything was
 -- written since the last flush
@@ -44,30 +44,32 @@ module _ {S E : Type 0} (reader : AsyncRead.Ghosts S) (writer : AsyncWrite.Ghost
     (engine : Engine.Ghosts E) where
   -- What a call does besides. It reads only where the engine waits for more and all that it put out is written and
   -- flushed; what comes goes to the engine, and what is written is the front of what the engine put out.
-  abbrev pub Does : Mover S E → Call → Mover S E → Type 0
-  Does old (Gave bytes) new =
+  abbrev pub DoesStreamCall : Mover S E → Call → Mover S E → Type 0
+  DoesStreamCall old (Gave bytes) new =
       IsSent old × (old.turn ≡ More) × (length bytes ≤ engine.room old.engine)
       × engine.takes old.engine bytes new.out new.turn new.engine × (new.unflushed ≡ false)
-  Does old Ended new = IsSent old × (old.turn ≡ More) × IsSameButStream old new
-  Does old (Wrote bytes) new =
+  DoesStreamCall old Ended new = IsSent old × (old.turn ≡ More) × IsSameButStream old new
+  DoesStreamCall old (Wrote bytes) new =
       (old.out ≡ bytes ++ new.out)
       × (new ≡ record old { stream = new.stream; out = new.out; unflushed = true })
-  Does old Flushed new =
+  DoesStreamCall old Flushed new =
       (old.out ≡ []) × (old.unflushed ≡ true)
       × (new ≡ record old { stream = new.stream; unflushed = false })
-  Does old Waited new = IsSameButStream old new
-  Does old (Unread e) new = IsSent old × (old.turn ≡ More) × IsSameButStream old new
-  Does old (Unwritten e) new = (0 < length old.out) × IsSameButStream old new
-  Does old (Unflushed e) new = (old.out ≡ []) × (old.unflushed ≡ true) × IsSameButStream old new
+  DoesStreamCall old Waited new = IsSameButStream old new
+  DoesStreamCall old (Unread e) new = IsSent old × (old.turn ≡ More) × IsSameButStream old new
+  DoesStreamCall old (Unwritten e) new = (0 < length old.out) × IsSameButStream old new
+  DoesStreamCall old (Unflushed e) new = (old.out ≡ []) × (old.unflushed ≡ true)
+      × IsSameButStream old new
 
   abbrev pub Step : Mover S E → Call → Mover S E → Type 0
-  Step old call new = Did reader writer old.stream call new.stream × Does old call new
+  Step old call new = DidStreamCall reader writer old.stream call new.stream
+      × DoesStreamCall old call new
 
   -- these calls, none of which failed or met the end
-  abbrev pub Runs : Mover S E → List Call → Mover S E → Type 0
-  Runs old [] new = old ≡ new
-  Runs old (call ∷ calls) new =
-      (mid : Mover S E) × CallGoesOn call × Step old call mid × Runs mid calls new
+  abbrev pub MovesStreamBytes : Mover S E → List Call → Mover S E → Type 0
+  MovesStreamBytes old [] new = old ≡ new
+  MovesStreamBytes old (call ∷ calls) new =
+      (mid : Mover S E) × CallGoesOn call × Step old call mid × MovesStreamBytes mid calls new
 
   -- what a poll did: some calls, and where it is ready with an error the call that failed so
   abbrev pub Last : {T : Type 0} → Mover S E → Poll (Result T Error) → Mover S E → Type 0
@@ -75,9 +77,9 @@ module _ {S E : Type 0} (reader : AsyncRead.Ghosts S) (writer : AsyncWrite.Ghost
   Last mid (Ready (Ok value)) new = mid ≡ new
   Last mid Pending new = mid ≡ new
 
-  abbrev pub Polled : {T : Type 0} → Mover S E → Mover S E → Poll (Result T Error) → Type 0
-  Polled old new polled =
-      (calls : List Call) × (mid : Mover S E) × Runs old calls mid × Last mid polled new
+  abbrev pub PolledStream : {T : Type 0} → Mover S E → Mover S E → Poll (Result T Error) → Type 0
+  PolledStream old new polled =
+      (calls : List Call) × (mid : Mover S E) × MovesStreamBytes old calls mid × Last mid polled new
 
   -- what a poll that reads did: false is the answer at the stream's end alone
   abbrev pub Meets : Mover S E → Poll (Result Bool Error) → Mover S E → Type 0
@@ -86,7 +88,8 @@ module _ {S E : Type 0} (reader : AsyncRead.Ghosts S) (writer : AsyncWrite.Ghost
 
   abbrev pub Met : Mover S E → Mover S E → Poll (Result Bool Error) → Type 0
   Met old new polled =
-      (calls : List Call) × (mid : Mover S E) × Runs old calls mid × Meets mid polled new
+      (calls : List Call) × (mid : Mover S E) × MovesStreamBytes old calls mid
+      × Meets mid polled new
 
   -- the last call of an exchange that ended so
   abbrev pub Stops : Mover S E → Stop → List Call → Mover S E → Type 0
@@ -99,7 +102,7 @@ module _ {S E : Type 0} (reader : AsyncRead.Ghosts S) (writer : AsyncWrite.Ghost
   pub record Ran (old : Mover S E) (why : Stop) (new : Mover S E) : Type 0 where
     pub calls : List Call
     pub mid : Mover S E
-    pub runs : Runs old calls mid
+    pub runs : MovesStreamBytes old calls mid
     pub last : List Call
     pub stops : Stops mid why last new
 

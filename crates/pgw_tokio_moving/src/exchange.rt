@@ -85,13 +85,13 @@ fn poll_read_piece<S: AsyncRead>(
 
 impl<S: AsyncRead + AsyncWrite, E: Engine> Exchange<S, E> {
     ghost use Rattle.pgw_tokio_moving.specs.Calls.{Call};
-    ghost use Rattle.pgw_tokio_moving.specs.Moving.{held_in, IsSent, HasSoundEngine, Met, Polled, Ran, Runs, WaitsFor};
+    ghost use Rattle.pgw_tokio_moving.specs.Moving.{held_in, IsSent, HasSoundEngine, Met, PolledStream, Ran, MovesStreamBytes, WaitsFor};
 
     // One write from the front of what is to be written.
     fn poll_write(&mut self, cx: &mut Context<'_>) -> Poll<io::Result<()>>
         requires { 0 < length self.old.out.items }
         ensures same { (self.new.engine ≡ self.old.engine) × (self.new.turn ≡ self.old.turn) }
-        ensures polled { Polled S.AsyncRead S.AsyncWrite E.Engine (held_in self.old)
+        ensures polled { PolledStream S.AsyncRead S.AsyncWrite E.Engine (held_in self.old)
             (held_in self.new) result }
         ensures registered { OnPending result
             (Covers cx.new (WaitsFor S.AsyncRead S.AsyncWrite (held_in self.new))) }
@@ -112,7 +112,7 @@ impl<S: AsyncRead + AsyncWrite, E: Engine> Exchange<S, E> {
     fn poll_flush(&mut self, cx: &mut Context<'_>) -> Poll<io::Result<()>>
         requires { self.old.out.items ≡ [] }
         ensures same { (self.new.engine ≡ self.old.engine) × (self.new.turn ≡ self.old.turn) }
-        ensures polled { Polled S.AsyncRead S.AsyncWrite E.Engine (held_in self.old)
+        ensures polled { PolledStream S.AsyncRead S.AsyncWrite E.Engine (held_in self.old)
             (held_in self.new) result }
         ensures sent { OnReadyOk result (IsSent (held_in self.new)) }
         ensures registered { OnPending result
@@ -134,7 +134,7 @@ impl<S: AsyncRead + AsyncWrite, E: Engine> Exchange<S, E> {
     // Writes all that is to be written, and flushes.
     fn poll_send(&mut self, cx: &mut Context<'_>) -> Poll<io::Result<()>>
         ensures same { (self.new.engine ≡ self.old.engine) × (self.new.turn ≡ self.old.turn) }
-        ensures polled { Polled S.AsyncRead S.AsyncWrite E.Engine (held_in self.old)
+        ensures polled { PolledStream S.AsyncRead S.AsyncWrite E.Engine (held_in self.old)
             (held_in self.new) result }
         ensures sent { OnReadyOk result (IsSent (held_in self.new)) }
         ensures registered { OnPending result
@@ -193,7 +193,8 @@ impl<S: AsyncRead + AsyncWrite, E: Engine> Exchange<S, E> {
             (λ why. Ran S.AsyncRead S.AsyncWrite E.Engine (held_in self.old) why
             (held_in self.new)) }
         ensures went { OnPending result
-            ((calls : List Call) × Runs S.AsyncRead S.AsyncWrite E.Engine (held_in self.old) calls
+            ((calls : List Call) × MovesStreamBytes S.AsyncRead S.AsyncWrite E.Engine
+            (held_in self.old) calls
             (held_in self.new)) }
         ensures sound { HasSoundEngine E.Engine (held_in self.new) }
         ensures registered { OnPending result

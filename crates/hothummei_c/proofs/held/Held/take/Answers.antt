@@ -4,13 +4,13 @@ use Rattle.pgw_dialogue.proofs.DialogueLaws.{takes, takes_broken, takes_done}
 use Rattle.pgw_session.specs.declared.types.Request.{Request}
 use Rattle.pgw_session.specs.Input.{input_with}
 use Rattle.hothummei_c.specs.declared.held.Held.{Held}
-use Rattle.hothummei_c.specs.Held.{dialogue_of, state_of}
+use Rattle.hothummei_c.specs.Held.{dialogue_of, handle_state}
 use Rattle.hothummei_c.proofs.HeldLaws.{broken_of, is_behind_answer, same_state}
 use Rattle.hothummei_c.proofs.held.Held.take.Goals as goal
 
 pub returns-in-Done-clause-takes : goal.returns-in-Done-clause-takes
 returns-in-Done-clause-takes c =
-    takes_done (dialogue_of c.args.self.now) c.args.piece.now c.args.out.now.items (ap state_of c.in-Done.is)
+    takes_done (dialogue_of c.args.self.now) c.args.piece.now c.args.out.now.items (ap handle_state c.in-Done.is)
 
 pub returns-in-Refused-clause-takes : goal.returns-in-Refused-clause-takes
 returns-in-Refused-clause-takes c =
@@ -29,13 +29,13 @@ returns-clause-takes c =
     c.feed-fed.new.notes (old.inbox ++ take old.room c.args.piece.now) c.feed-fed.new.inbox
     c.args.out.now.items c.feed-fed.new.out.items c.feed-fed.result) c.as_slice.ensures part in
     takes (dialogue_of old) _ c.args.piece.now c.args.out.now.items c.feed-fed.new.out.items c.feed-fed.result
-    c.answer_behind-answer.result (ap state_of c.in-Going.is) refl took
+    c.answer_behind-answer.result (ap handle_state c.in-Going.is) refl took
     (ap (λ (b : List ℕ). old.room - length b) c.within-bytes.ensures) c.answer_behind-answer.ensures
-    (ap state_of c.state_behind-self.ensures
+    (ap handle_state c.state_behind-self.ensures
     ∙ same_state c.answer_behind-answer.result)
 
 pub returns-in-Done-clause-after : goal.returns-in-Done-clause-after
-returns-in-Done-clause-after c = ap state_of c.in-Done.is
+returns-in-Done-clause-after c = ap handle_state c.in-Done.is
 
 pub returns-in-Refused-clause-after : goal.returns-in-Refused-clause-after
 returns-in-Refused-clause-after c = broken_of c.args.self.now.state c.in-Refused.is
@@ -52,5 +52,5 @@ returns-clause-after c =
       state = c.state_behind-self.result;
     } in
     is_behind_answer (dialogue_of new) c.feed-fed.result c.answer_behind-answer.result
-    (ap state_of c.state_behind-self.ensures
+    (ap handle_state c.state_behind-self.ensures
     ∙ same_state c.answer_behind-answer.result) c.answer_behind-answer.ensures

@@ -1,6 +1,6 @@
 use Rattle.std.proofs.Common.{rules, ◌≡◌, ◌∙◌, sym, subst, inl, inr}
 use Rattle.pgw_pool_turns.specs.Standings.{IsFree, IsTurn}
-use Rattle.pgw_pool_turns.specs.Desks.{TurnStock, IsCounted, LendsNothing, Lending}
+use Rattle.pgw_pool_turns.specs.Desks.{TurnStock, IsDeskCounted, LendsNothing, Lending}
 use Rattle.pgw_pool_turns.proofs.DeskLaws.{not_so, is_served, has_no_ticket}
 use Rattle.pgw_pool_turns.proofs.turns.Turns.lend.Goals as goal
 
@@ -14,7 +14,7 @@ returns-then-is_free-clause-lending g c =
     let is = is_served g.S.Stock.lends g.S.Stock.is_spent old new c.lend_at_once.result (inl free) lends in (
       old,
       new,
-      subst (λ (d : TurnStock g.row.S.Denot). IsCounted g.S.Stock.ready g.S.Stock.room d) same
+      subst (λ (d : TurnStock g.row.S.Denot). IsDeskCounted g.S.Stock.ready g.S.Stock.room d) same
           c.is_free.ensures.counted,
       subst (Lending g.S.Stock.lends g.S.Stock.is_spent old new) (sym c.ok_or.ensures.value) is,
     )
@@ -28,7 +28,7 @@ returns-in-Err-clause-lending g c =
     let is = has_no_ticket g.S.Stock.is_spent old c.in-Err.error busy c.in-Err.ensures.refused in (
       old,
       old,
-      subst (λ (d : TurnStock g.row.S.Denot). IsCounted g.S.Stock.ready g.S.Stock.room d) same
+      subst (λ (d : TurnStock g.row.S.Denot). IsDeskCounted g.S.Stock.ready g.S.Stock.room d) same
           c.is_free.ensures.counted,
       subst (LendsNothing g.S.Stock.is_spent old) (sym c.refusal_of.ensures) is,
     )
