@@ -6,6 +6,8 @@ mod clients;
 #[cfg(test)]
 mod ends;
 #[cfg(test)]
+mod failing;
+#[cfg(test)]
 mod servers;
 #[cfg(test)]
 mod sessions;
