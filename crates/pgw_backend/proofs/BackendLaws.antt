@@ -14,12 +14,12 @@ use Rattle.pgw_startup.specs.Login.{authentication_of, parameter_status_of, back
 use Rattle.pgw_startup.specs.Response.{ssl_response_of, gss_enc_response_of}
 use Rattle.pgw_query.specs.Rows.{ready_for_query_of, command_complete_of, empty_query_response_of, error_response_of, notice_response_of, notification_response_of, parameter_description_of, row_description_of, data_row_of, no_data_of, SpellsCommandComplete, SpellsReadyForQuery, SpellsErrorResponse, SpellsNoticeResponse, SpellsNotificationResponse, SpellsParameterDescription, SpellsRowDescription, SpellsDataRow}
 use Rattle.pgw_ext.specs.Rows.{parse_complete_of, bind_complete_of, close_complete_of, portal_suspended_of}
-use Rattle.pgw_copy.specs.Rows.{copy_data_of, copy_done_of, copy_fail_of, copy_in_response_of, copy_out_response_of, copy_both_response_of, SpellsCopyData, SpellsCopyDone, SpellsCopyFail, SpellsCopyInResponse, SpellsCopyOutResponse, SpellsCopyBothResponse}
+use Rattle.pgw_copy.specs.Rows.{copy_data_of, copy_done_of, copy_fail_of, copy_response_of, SpellsCopyData, SpellsCopyDone, SpellsCopyFail, SpellsCopyResponse}
 use Rattle.pgw_startup.proofs.LoginLaws.{authentication, parameter_status, backend_key_data, negotiate}
 use Rattle.pgw_startup.proofs.ResponseLaws.{ssl_response, gss_enc_response}
 use Rattle.pgw_query.proofs.RowLaws.{command_complete, empty_query_response, ready_for_query, error_response, notice_response, notification_response, parameter_description, row_description, data_row, no_data}
 use Rattle.pgw_ext.proofs.RowLaws.{parse_complete, bind_complete, close_complete, portal_suspended}
-use Rattle.pgw_copy.proofs.RowLaws.{copy_data, copy_done, copy_fail, copy_in_response, copy_out_response, copy_both_response}
+use Rattle.pgw_copy.proofs.RowLaws.{copy_data, copy_done, copy_fail, copy_response}
 use Rattle.pgw_backend.specs.declared.backend.PgWireBackendMessage.{PgWireBackendMessage}
 use Rattle.pgw_backend.specs.declared.backend.PgWireBackendMessage.TheVariants as backend
 use Rattle.pgw_backend.specs.Backend.{backend_by, backend_typed_front, backend_front}
@@ -108,12 +108,12 @@ module _ (ctx : DecodeContext) (m : PgWireBackendMessage) (bytes rest : List ℕ
       (λ x g s. (typed, s)) b first)
       (choice b 102 _ _ (one_found backend.CopyFail 102 10000 (copy_fail_of ctx) SpellsCopyFail (copy_fail ctx)
       (λ x g s. (typed, s)) b first)
-      (choice b 71 _ _ (one_found backend.CopyInResponse 71 30000 (copy_in_response_of ctx) SpellsCopyInResponse
-      (copy_in_response ctx) (λ x g s. (typed, s)) b first)
-      (choice b 72 _ _ (one_found backend.CopyOutResponse 72 30000 (copy_out_response_of ctx) SpellsCopyOutResponse
-      (copy_out_response ctx) (λ x g s. (typed, s)) b first)
-      (choice b 87 _ _ (one_found backend.CopyBothResponse 87 30000 (copy_both_response_of ctx)
-      SpellsCopyBothResponse (copy_both_response ctx) (λ x g s. (typed, s)) b first)
+      (choice b 71 _ _ (one_found backend.CopyInResponse 71 30000 (copy_response_of 71 ctx) SpellsCopyResponse
+      (copy_response 71 ctx) (λ x g s. (typed, s)) b first)
+      (choice b 72 _ _ (one_found backend.CopyOutResponse 72 30000 (copy_response_of 72 ctx) SpellsCopyResponse
+      (copy_response 72 ctx) (λ x g s. (typed, s)) b first)
+      (choice b 87 _ _ (one_found backend.CopyBothResponse 87 30000 (copy_response_of 87 ctx)
+      SpellsCopyResponse (copy_response 87 ctx) (λ x g s. (typed, s)) b first)
       (λ e. absurd cc))))))))))))))))))))))))
 
   typed_part : IsTyped ctx → backend_typed_front ctx bytes ≡ Ok (Some (m, rest)) → Found
@@ -245,14 +245,14 @@ backend_again ctx (backend.CopyFail m) g rest h =
     one_again ctx backend.CopyFail 102 10000 (copy_fail_of ctx) SpellsCopyFail (copy_fail ctx) (λ bytes. refl) h.0
     m g rest h.1
 backend_again ctx (backend.CopyInResponse m) g rest h =
-    one_again ctx backend.CopyInResponse 71 30000 (copy_in_response_of ctx) SpellsCopyInResponse
-    (copy_in_response ctx) (λ bytes. refl) h.0 m g rest h.1
+    one_again ctx backend.CopyInResponse 71 30000 (copy_response_of 71 ctx) SpellsCopyResponse
+    (copy_response 71 ctx) (λ bytes. refl) h.0 m g rest h.1
 backend_again ctx (backend.CopyOutResponse m) g rest h =
-    one_again ctx backend.CopyOutResponse 72 30000 (copy_out_response_of ctx) SpellsCopyOutResponse
-    (copy_out_response ctx) (λ bytes. refl) h.0 m g rest h.1
+    one_again ctx backend.CopyOutResponse 72 30000 (copy_response_of 72 ctx) SpellsCopyResponse
+    (copy_response 72 ctx) (λ bytes. refl) h.0 m g rest h.1
 backend_again ctx (backend.CopyBothResponse m) g rest h =
-    one_again ctx backend.CopyBothResponse 87 30000 (copy_both_response_of ctx) SpellsCopyBothResponse
-    (copy_both_response ctx) (λ bytes. refl) h.0 m g rest h.1
+    one_again ctx backend.CopyBothResponse 87 30000 (copy_response_of 87 ctx) SpellsCopyResponse
+    (copy_response 87 ctx) (λ bytes. refl) h.0 m g rest h.1
 
 -- a message's spelling ends where its length says
 pub goes_on : (ctx : DecodeContext) (m n : PgWireBackendMessage) (g more : List ℕ) → SpellsIn ctx m g

@@ -18,8 +18,8 @@ use Rattle.pgw_startup.proofs.LoginWritten.{authentication_written, parameter_st
 use Rattle.pgw_startup.proofs.ResponseLaws.{ssl_written, gss_written}
 use Rattle.pgw_query.specs.Rows.{status_byte, codes, codes_fault, is_refused, row_description, data_row, notification_response, is_notification_refused, SpellsCommandComplete, SpellsReadyForQuery, SpellsErrorResponse, SpellsNoticeResponse, SpellsNotificationResponse, SpellsParameterDescription, SpellsRowDescription, SpellsDataRow}
 use Rattle.pgw_query.proofs.RowsWritten.{status_written, codes_written, notification_response_written, parameter_description_written, row_description_written, data_row_written}
-use Rattle.pgw_copy.specs.Rows.{formats, is_miscounted, SpellsCopyData, SpellsCopyDone, SpellsCopyFail, SpellsCopyInResponse, SpellsCopyOutResponse, SpellsCopyBothResponse}
-use Rattle.pgw_copy.proofs.RowsWritten.{columns_written}
+use Rattle.pgw_copy.specs.Rows.{SpellsCopyData, SpellsCopyDone, SpellsCopyFail}
+use Rattle.pgw_copy.proofs.RowsWritten.{copy_response_written}
 use Rattle.pgw_backend.specs.declared.backend.PgWireBackendMessage.{PgWireBackendMessage}
 use Rattle.pgw_backend.specs.declared.backend.PgWireBackendMessage.TheVariants as backend
 use Rattle.pgw_backend.specs.Texts.{IsSound, Suits}
@@ -91,18 +91,9 @@ backend_written version (backend.CopyDone m) g sound suits is =
 backend_written version (backend.CopyFail m) g sound suits is =
     typed_written 102 10000 SpellsCopyFail m (refused_if (has_zero m.message)) (text m.message) g (lit< tt) is
     (λ fine. text_written m.message (unrefused _ fine) sound)
-backend_written version (backend.CopyInResponse m) g sound suits is =
-    typed_written 71 30000 SpellsCopyInResponse m (refused_if (is_miscounted m.columns m.column_formats))
-    (formats m.format m.columns m.column_formats) g (lit< tt) is
-    (λ fine. columns_written m.format m.columns m.column_formats sound fine)
-backend_written version (backend.CopyOutResponse m) g sound suits is =
-    typed_written 72 30000 SpellsCopyOutResponse m (refused_if (is_miscounted m.columns m.column_formats))
-    (formats m.format m.columns m.column_formats) g (lit< tt) is
-    (λ fine. columns_written m.format m.columns m.column_formats sound fine)
-backend_written version (backend.CopyBothResponse m) g sound suits is =
-    typed_written 87 30000 SpellsCopyBothResponse m (refused_if (is_miscounted m.columns m.column_formats))
-    (formats m.format m.columns m.column_formats) g (lit< tt) is
-    (λ fine. columns_written m.format m.columns m.column_formats sound fine)
+backend_written version (backend.CopyInResponse m) g sound suits is = copy_response_written 71 m g sound is
+backend_written version (backend.CopyOutResponse m) g sound suits is = copy_response_written 72 m g sound is
+backend_written version (backend.CopyBothResponse m) g sound suits is = copy_response_written 87 m g sound is
 
 pub is_spelled : (m : PgWireBackendMessage) (old new : List ℕ) (r : Result (Unit {0}) PgWireError) → IsSound m
     → Appends r old new (backend_encoding m)

@@ -12,7 +12,7 @@ use Rattle.pgw_startup.specs.Login.{authentication_of, parameter_status_of, back
 use Rattle.pgw_startup.specs.Response.{ssl_response_of, gss_enc_response_of, ssl_byte, gss_byte}
 use Rattle.pgw_query.specs.Rows.{ready_for_query_of, command_complete_of, empty_query_response_of, error_response_of, notice_response_of, notification_response_of, parameter_description_of, row_description_of, data_row_of, no_data_of, status_byte, codes, codes_fault, row_description, is_refused, data_row, notification_response, is_notification_refused}
 use Rattle.pgw_ext.specs.Rows.{parse_complete_of, bind_complete_of, close_complete_of, portal_suspended_of}
-use Rattle.pgw_copy.specs.Rows.{copy_data_of, copy_done_of, copy_fail_of, copy_in_response_of, copy_out_response_of, copy_both_response_of, formats, is_miscounted}
+use Rattle.pgw_copy.specs.Rows.{copy_data_of, copy_done_of, copy_fail_of, copy_response_of, formats, is_miscounted}
 use Rattle.pgw_backend.specs.declared.backend.PgWireBackendMessage.{PgWireBackendMessage}
 use Rattle.pgw_backend.specs.declared.backend.PgWireBackendMessage.TheVariants as backend
 use Rattle.pgw_wire.specs.declared.limits.TheConstants.{LARGE_LIMIT, LONG_LIMIT, SMALL_BACKEND_LIMIT, SMALL_LIMIT}
@@ -28,11 +28,11 @@ copy_by byte ctx bytes =
     else (if byte == 102 then as_one_of backend.CopyFail
     (wire_front (Typed 102) SMALL_LIMIT (copy_fail_of ctx) bytes)
     else (if byte == 71 then as_one_of backend.CopyInResponse
-    (wire_front (Typed 71) SMALL_BACKEND_LIMIT (copy_in_response_of ctx) bytes)
+    (wire_front (Typed 71) SMALL_BACKEND_LIMIT (copy_response_of 71 ctx) bytes)
     else (if byte == 72 then as_one_of backend.CopyOutResponse
-    (wire_front (Typed 72) SMALL_BACKEND_LIMIT (copy_out_response_of ctx) bytes)
+    (wire_front (Typed 72) SMALL_BACKEND_LIMIT (copy_response_of 72 ctx) bytes)
     else (if byte == 87 then as_one_of backend.CopyBothResponse
-    (wire_front (Typed 87) SMALL_BACKEND_LIMIT (copy_both_response_of ctx) bytes)
+    (wire_front (Typed 87) SMALL_BACKEND_LIMIT (copy_response_of 87 ctx) bytes)
     else (Err (InvalidMessageType byte)))))))
 
 -- the extended query, and COPY

@@ -9,7 +9,7 @@ use Rattle.pgw_wire.specs.Formats.{SpellsTyped, NoBody}
 use Rattle.pgw_startup.specs.Login.{SpellsAuthentication, SpellsParameterStatus, SpellsBackendKeyData, SpellsNegotiate}
 use Rattle.pgw_startup.specs.Response.{SpellsSslResponse, SpellsGssEncResponse}
 use Rattle.pgw_query.specs.Rows.{SpellsCommandComplete, SpellsReadyForQuery, SpellsErrorResponse, SpellsNoticeResponse, SpellsNotificationResponse, SpellsParameterDescription, SpellsRowDescription, SpellsDataRow}
-use Rattle.pgw_copy.specs.Rows.{SpellsCopyData, SpellsCopyDone, SpellsCopyFail, SpellsCopyInResponse, SpellsCopyOutResponse, SpellsCopyBothResponse}
+use Rattle.pgw_copy.specs.Rows.{SpellsCopyData, SpellsCopyDone, SpellsCopyFail, SpellsCopyResponse}
 use Rattle.pgw_backend.specs.Backend.{backend_front}
 use Rattle.pgw_wire.specs.declared.limits.TheConstants.{LARGE_LIMIT, LONG_LIMIT, SMALL_BACKEND_LIMIT, SMALL_LIMIT}
 
@@ -72,11 +72,11 @@ Spelled version (backend.CopyData m) = SpellsTyped 100 LARGE_LIMIT SpellsCopyDat
 Spelled version (backend.CopyDone m) = SpellsTyped 99 SMALL_LIMIT SpellsCopyDone m
 Spelled version (backend.CopyFail m) = SpellsTyped 102 SMALL_LIMIT SpellsCopyFail m
 Spelled version (backend.CopyInResponse m) =
-    SpellsTyped 71 SMALL_BACKEND_LIMIT SpellsCopyInResponse m
+    SpellsTyped 71 SMALL_BACKEND_LIMIT SpellsCopyResponse m
 Spelled version (backend.CopyOutResponse m) =
-    SpellsTyped 72 SMALL_BACKEND_LIMIT SpellsCopyOutResponse m
+    SpellsTyped 72 SMALL_BACKEND_LIMIT SpellsCopyResponse m
 Spelled version (backend.CopyBothResponse m) =
-    SpellsTyped 87 SMALL_BACKEND_LIMIT SpellsCopyBothResponse m
+    SpellsTyped 87 SMALL_BACKEND_LIMIT SpellsCopyResponse m
 
 -- the phase in which the message comes
 abbrev pub AwaitsBackend : DecodeContext → PgWireBackendMessage → Type 0

@@ -1,5 +1,5 @@
 //! Why a client gives up.
-ghost use Rattle.std.specs.Prelude.{◌≡◌, IfOk, IfErr};
+ghost use Rattle.std.specs.Prelude.{◌≡◌};
 ghost use Rattle.pgw_backend.specs.ClientError.{IsUnexpected};
 
 use crate::backend::PgWireBackendMessage;

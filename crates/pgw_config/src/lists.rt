@@ -1,8 +1,5 @@
 //! The keys whose value is a list with commas.
-ghost use Rattle.std.specs.Prelude.{◌≡◌, ◌∷◌, ◌++◌, ◌<◌, ◌+◌, ◌==◌, [], length, List, IfOk, OnOk, Some, None, if◌then◌else◌};
-ghost use Rattle.pgw_config.specs.declared.config.Config.{Config as TheConfig};
-ghost use Rattle.pgw_config.specs.Choices.{with_value};
-ghost use Rattle.std.specs.List.{position_or_len, before_first, after_first};
+ghost use Rattle.std.specs.Prelude.{◌≡◌, ◌++◌, ◌<◌, ◌+◌, ◌==◌, IfOk, OnOk, Some, None, if◌then◌else◌};
 ghost use Rattle.pgw_config.specs.Lists.{port_of, with_list, hosts_of};
 ghost use Rattle.pgw_config.specs.Config.{host_named};
 ghost use Rattle.pgw_config.specs.HostAddr.{addr_of};

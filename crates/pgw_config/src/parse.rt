@@ -1,5 +1,5 @@
 //! Connection texts.
-ghost use Rattle.std.specs.Prelude.{◌≡◌, Result, Err, Some, IfOk};
+ghost use Rattle.std.specs.Prelude.{Result, Err, Some, IfOk};
 ghost use Rattle.pgw_types.specs.declared.config_error.ConfigError.{ConfigError as TheError};
 ghost use Rattle.pgw_config.specs.Answers.{IsConfigAnswer};
 ghost use Rattle.pgw_config.specs.Parse.{parse_result, outcome_of, HasOutcome, IsParsed};

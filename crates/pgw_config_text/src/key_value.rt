@@ -1,5 +1,5 @@
 //! Connection texts that are pairs of a key and a value.
-ghost use Rattle.std.specs.Prelude.{◌≡◌, ◌<◌, ◌≤◌, ◌+◌, ◌∷◌, ◌++◌, [], true, false, length, IfOk, IfSome, not, string_bytes};
+ghost use Rattle.std.specs.Prelude.{◌≡◌, ◌<◌, ◌+◌, [], true, false, length, IfOk, IfSome, not, string_bytes};
 ghost use Rattle.std.specs.List.{position, flat_map};
 ghost use Rattle.std.specs.Char.{is_whitespace, encode_utf8};
 ghost use Rattle.std.specs.Str.{chars};
@@ -78,7 +78,7 @@ fn ends_a_value(c: char, quoted: bool) -> bool
     if quoted { c == '\'' } else { c.is_whitespace() }
 }
 
-/// What a value stands for, and where it ends before the text does.
+// What a value stands for, and where it ends before the text does.
 #[derive(Drop)]
 struct Value {
     text: Text,
@@ -95,7 +95,7 @@ fn value_up_to(text: String, end: Option<usize>) -> Value
     }
 }
 
-/// What a value stands for, and how many characters of it there are before the one that ends it.
+// What a value stands for, and how many characters of it there are before the one that ends it.
 #[tactic(auto, unfolding(crate::specs::Reader::conninfo_value))]
 fn read_value(alloc: Global, text: &[char], quoted: bool) -> Result<Value, OutOfMemory>
     ensures value { IfOk result (λ v. (v.text, v.end)
@@ -128,8 +128,8 @@ fn text_of(alloc: Global, characters: &[char]) -> Result<Text, OutOfMemory>
     Ok(Text::from_string(text))
 }
 
-/// What stands at the front of a text: nothing but white space, a pair and what is behind it, or
-/// neither.
+// What stands at the front of a text: nothing but white space, a pair and what is behind it, or
+// neither.
 #[derive(Drop)]
 enum Front<'a> {
     Nothing,
@@ -197,7 +197,7 @@ fn read_front(alloc: Global, text: &[char]) -> Result<Front<'_>, OutOfMemory>
     read_from_key(alloc, text)
 }
 
-/// The pairs of a text up to its end, or up to the first fault of form.
+// The pairs of a text up to its end, or up to the first fault of form.
 fn cut_all(alloc: Global, text: &[char]) -> Result<Cut, OutOfMemory>
     ensures { IfOk result (λ r. IsCut text.now r.parts r.fault) }
 {

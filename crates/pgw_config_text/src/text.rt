@@ -11,7 +11,7 @@ use pgw_types::marks::behind_word;
 use pgw_types::memory::OutOfMemory;
 use std::alloc::Global;
 
-/// What stands behind the scheme of a URL.
+// What stands behind the scheme of a URL.
 fn behind_scheme(text: &[u8]) -> Option<&[u8]>
     ensures { option_copied result ≡ url_in text.now }
 {

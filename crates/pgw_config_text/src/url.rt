@@ -1,5 +1,5 @@
 //! Connection texts that are URLs.
-ghost use Rattle.std.specs.Prelude.{◌≡◌, [], codes, IfOk};
+ghost use Rattle.std.specs.Prelude.{◌≡◌, [], IfOk};
 ghost use Rattle.std.specs.Option.{option_copied};
 ghost use Rattle.pgw_config_text.specs.declared.part.Part.TheVariants as kind;
 ghost use Rattle.pgw_types.specs.Marks.{or_empty as empty_or};
@@ -22,7 +22,7 @@ fn or_empty(text: Option<&[u8]>) -> &[u8]
     text.unwrap_or(b"")
 }
 
-/// The text that one with escapes stands for, or the fault.
+// The text that one with escapes stands for, or the fault.
 #[tactic(auto, unfolding(crate::specs::Url::url_text))]
 fn read_text(alloc: Global, written: &[u8]) -> Result<Result<Text, Fault>, OutOfMemory>
     ensures { IfOk result (λ r. r ≡ url_text written.now) }
@@ -35,7 +35,7 @@ fn read_text(alloc: Global, written: &[u8]) -> Result<Result<Text, Fault>, OutOf
     }
 }
 
-/// Adds a pair of this key and what the text stands for.
+// Adds a pair of this key and what the text stands for.
 fn add_value(alloc: Global, cut: Cut, key: &str, written: &[u8]) -> Result<Cut, OutOfMemory>
     ensures { IfOk result (λ r. r ≡ next_cut cut
         (url_part (kind.Pair key.now) (url_text written.now))) }
@@ -66,7 +66,7 @@ fn add_login(alloc: Global, cut: Cut, text: &[u8]) -> Result<Cut, OutOfMemory>
     add_password(alloc, cut, password)
 }
 
-/// The user and the password in front, and what stands behind them.
+// The user and the password in front, and what stands behind them.
 fn read_login(alloc: Global, text: &[u8]) -> Result<(Cut, &[u8]), OutOfMemory>
     ensures login { IfOk result (λ r. r.0 ≡ adds (up_to_fault []) (credentials_in text.now)) }
     ensures behind { IfOk result (λ r. r.1.now ≡ behind_credentials text.now) }
@@ -94,7 +94,7 @@ fn add_host_and_port(alloc: Global, cut: Cut, host: &[u8], port: &[u8]) -> Resul
     add_value(alloc, cut, "port", port)
 }
 
-/// Adds a host that stood in brackets, with what stands behind the bracket that closes it.
+// Adds a host that stood in brackets, with what stands behind the bracket that closes it.
 fn add_closed(
     alloc: Global,
     cut: Cut,
@@ -150,7 +150,7 @@ fn add_database(alloc: Global, cut: Cut, text: &[u8]) -> Result<Cut, OutOfMemory
     add_value(alloc, cut, "dbname", text)
 }
 
-/// Adds the hosts and the database.
+// Adds the hosts and the database.
 #[tactic(auto, using(crate::proofs::UrlLaws::adds_append))]
 fn add_address(alloc: Global, cut: Cut, text: &[u8]) -> Result<Cut, OutOfMemory>
     ensures { IfOk result (λ r. r ≡ adds cut (address_in text.now)) }
@@ -160,7 +160,7 @@ fn add_address(alloc: Global, cut: Cut, text: &[u8]) -> Result<Cut, OutOfMemory>
     add_database(alloc, cut, or_empty(database))
 }
 
-/// What a pair of a key and a value makes, or the first fault.
+// What a pair of a key and a value makes, or the first fault.
 fn pair(key: Result<Text, Fault>, value: Result<Text, Fault>) -> Result<Part, Fault>
     ensures { result ≡ pair_of key value }
 {
@@ -182,7 +182,7 @@ fn add_pair(alloc: Global, cut: Cut, key: &[u8], value: &[u8]) -> Result<Cut, Ou
     cut.next(pair(key, value))
 }
 
-/// Adds the pairs behind the question mark.
+// Adds the pairs behind the question mark.
 fn add_pairs(alloc: Global, cut: Cut, text: &[u8]) -> Result<Cut, OutOfMemory>
     ensures { IfOk result (AddsPairs cut text.now) }
 {

@@ -1,5 +1,5 @@
 //! Canceling the query of another connection.
-ghost use Rattle.std.specs.Prelude.{◌≡◌, ◌++◌};
+ghost use Rattle.std.specs.Prelude.{◌≡◌};
 ghost use Rattle.pgw_wire.specs.declared.framing.Framing.TheVariants.{Opening};
 ghost use Rattle.pgw_wire.specs.Keys.{key_fault};
 ghost use Rattle.pgw_control.specs.Openings.{has_code, cancel_request_of, cancel_request};

@@ -8,7 +8,7 @@ use Rattle.pgw_wire.proofs.FieldLaws.{text_reads}
 use Rattle.pgw_wire.proofs.FrameLaws.{reads_last, rest_reads, made_last}
 use Rattle.pgw_wire.proofs.MessageLaws.{is_row}
 use Rattle.pgw_copy.specs.declared.data.CopyDone.{CopyDone}
-use Rattle.pgw_copy.specs.Rows.{columns_at, SpellsColumns, copy_data_of, SpellsCopyData, copy_done_of, SpellsCopyDone, copy_fail_of, SpellsCopyFail, copy_in_response_of, SpellsCopyInResponse, copy_out_response_of, SpellsCopyOutResponse, copy_both_response_of, SpellsCopyBothResponse}
+use Rattle.pgw_copy.specs.Rows.{columns_at, SpellsColumns, copy_data_of, SpellsCopyData, copy_done_of, SpellsCopyDone, copy_fail_of, SpellsCopyFail, copy_response_of, SpellsCopyResponse}
 use Rattle.pgw_copy.proofs.ColumnLaws.{columns_reads}
 
 pub copy_data : (ctx : DecodeContext) → IsRow 100 1073741822 (copy_data_of ctx) SpellsCopyData
@@ -35,23 +35,10 @@ copy_fail ctx =
     (made_last (λ t. record { message = t }) (λ m. m.message) text_at SpellsText (λ x. refl) (λ y. refl)
     (reads_last text_at SpellsText text_reads))
 
-pub copy_in_response : (ctx : DecodeContext) → IsRow 71 30000 (copy_in_response_of ctx) SpellsCopyInResponse
-unfolding copy_in_response_of
-copy_in_response ctx = is_row 71 30000 (lit< tt) _ SpellsCopyInResponse
-    (made_last (λ p. record { format = p.0; columns = p.1; column_formats = p.2 })
-    (λ m. (m.format, m.columns, m.column_formats)) columns_at SpellsColumns (λ x. refl) (λ y. refl)
-    (reads_last columns_at SpellsColumns columns_reads))
-
-pub copy_out_response : (ctx : DecodeContext) → IsRow 72 30000 (copy_out_response_of ctx) SpellsCopyOutResponse
-unfolding copy_out_response_of
-copy_out_response ctx = is_row 72 30000 (lit< tt) _ SpellsCopyOutResponse
-    (made_last (λ p. record { format = p.0; columns = p.1; column_formats = p.2 })
-    (λ m. (m.format, m.columns, m.column_formats)) columns_at SpellsColumns (λ x. refl) (λ y. refl)
-    (reads_last columns_at SpellsColumns columns_reads))
-
-pub copy_both_response : (ctx : DecodeContext) → IsRow 87 30000 (copy_both_response_of ctx) SpellsCopyBothResponse
-unfolding copy_both_response_of
-copy_both_response ctx = is_row 87 30000 (lit< tt) _ SpellsCopyBothResponse
+pub copy_response : (byte : ℕ) (ctx : DecodeContext)
+    → IsRow byte 30000 (copy_response_of byte ctx) SpellsCopyResponse
+unfolding copy_response_of
+copy_response byte ctx = is_row byte 30000 (lit< tt) _ SpellsCopyResponse
     (made_last (λ p. record { format = p.0; columns = p.1; column_formats = p.2 })
     (λ m. (m.format, m.columns, m.column_formats)) columns_at SpellsColumns (λ x. refl) (λ y. refl)
     (reads_last columns_at SpellsColumns columns_reads))

@@ -1,5 +1,5 @@
 -- What is written of the messages spells them.
-use Rattle.std.proofs.Common.{◌≡◌, ℤ, pos, ◌<◌, ◌^◌, not, Bool, true, false, List, [], ◌∷◌, ◌++◌, length, refl, subst, ap, ◌∙◌, None, arith}
+use Rattle.std.proofs.Common.{◌≡◌, ℕ, ℤ, pos, ◌<◌, ◌^◌, not, Bool, true, false, List, [], ◌∷◌, ◌++◌, length, refl, subst, ap, ◌∙◌, None, Ok, arith, lit<}
 use Rattle.std.specs.Prelude.{FitsSigned}
 use Rattle.std.specs.Ordering.{int_eq}
 use Rattle.std.specs.List.{flat_map, AllByRecursion}
@@ -9,10 +9,13 @@ use Rattle.std.proofs.lemmas.List.Concat.{flat_map-cons}
 use Rattle.std.proofs.lemmas.Bool.Decides.{Decides-int_eq}
 use Rattle.std.proofs.Math.Facts.{Fits-of_z, Fits-lt-pow}
 use Rattle.pgw_wire.specs.Writing.{i16, refused_if}
-use Rattle.pgw_wire.specs.Formats.{SpellsInt, SpellsMany}
+use Rattle.pgw_wire.specs.declared.framing.Framing.TheVariants.{Typed}
+use Rattle.pgw_wire.specs.Framing.{encoded}
+use Rattle.pgw_wire.specs.Formats.{SpellsInt, SpellsMany, SpellsTyped}
 use Rattle.pgw_wire.proofs.FieldLaws.{wide16}
-use Rattle.pgw_wire.proofs.WrittenLaws.{int_written, unrefused}
-use Rattle.pgw_copy.specs.Rows.{formats, is_miscounted, SpellsColumns}
+use Rattle.pgw_wire.proofs.WrittenLaws.{int_written, typed_written, unrefused}
+use Rattle.pgw_copy.specs.declared.response.CopyResponse.{CopyResponse}
+use Rattle.pgw_copy.specs.Rows.{formats, is_miscounted, SpellsColumns, SpellsCopyResponse}
 use Rattle.pgw_copy.specs.Sound.{AreColumns}
 use Rattle.pgw_wire.specs.Sound.{IsCode}
 
@@ -39,7 +42,7 @@ same_count columns codes fine =
     negated true h = refl
     negated false h = absurd cc
 
-pub columns_written : (format columns : ℤ) (codes : List ℤ) → AreColumns format columns codes
+columns_written : (format columns : ℤ) (codes : List ℤ) → AreColumns format columns codes
     → refused_if (is_miscounted columns codes) ≡ None
     → SpellsColumns (format, columns, codes) (formats format columns codes)
 columns_written format columns codes sound fine =
@@ -60,3 +63,13 @@ columns_written format columns codes sound fine =
         ),
       ),
     )
+
+pub copy_response_written : (byte : ℕ) (m : CopyResponse byte) (g : List ℕ)
+    → AreColumns m.format m.columns m.column_formats
+    → encoded (Typed byte) 30000 (refused_if (is_miscounted m.columns m.column_formats))
+    (formats m.format m.columns m.column_formats) ≡ Ok g
+    → SpellsTyped byte 30000 SpellsCopyResponse m g
+copy_response_written byte m g sound is =
+    typed_written byte 30000 SpellsCopyResponse m (refused_if (is_miscounted m.columns m.column_formats))
+    (formats m.format m.columns m.column_formats) g (lit< tt) is
+    (λ fine. columns_written m.format m.columns m.column_formats sound fine)

@@ -11,9 +11,7 @@ use Rattle.pgw_wire.specs.Writing.{i16}
 use Rattle.pgw_copy.specs.declared.data.CopyData.{CopyData}
 use Rattle.pgw_copy.specs.declared.data.CopyDone.{CopyDone}
 use Rattle.pgw_copy.specs.declared.data.CopyFail.{CopyFail}
-use Rattle.pgw_copy.specs.declared.response.CopyInResponse.{CopyInResponse}
-use Rattle.pgw_copy.specs.declared.response.CopyOutResponse.{CopyOutResponse}
-use Rattle.pgw_copy.specs.declared.response.CopyBothResponse.{CopyBothResponse}
+use Rattle.pgw_copy.specs.declared.response.CopyResponse.{CopyResponse}
 
 -- ---- CopyData, CopyDone, CopyFail
 
@@ -60,27 +58,12 @@ formats format columns codes = cast_unsigned w8 format ∷ (i16 columns ++ flat_
 abbrev pub is_miscounted : ℤ → List ℤ → Bool
 is_miscounted columns codes = not (int_eq columns (pos (length codes)))
 
-unfoldable pub copy_in_response_of : DecodeContext → List ℕ → Result CopyInResponse PgWireError
-copy_in_response_of ctx bytes =
+-- CopyInResponse, CopyOutResponse and CopyBothResponse differ in their type bytes
+unfoldable pub copy_response_of : (byte : ℕ) → DecodeContext → List ℕ
+    → Result (CopyResponse byte) PgWireError
+copy_response_of byte ctx bytes =
     all_of (made_at (λ p. record { format = p.0; columns = p.1; column_formats = p.2 }) columns_at
     bytes)
 
-abbrev pub SpellsCopyInResponse : CopyInResponse → List ℕ → Type 0
-SpellsCopyInResponse m = SpellsColumns (m.format, m.columns, m.column_formats)
-
-unfoldable pub copy_out_response_of : DecodeContext → List ℕ → Result CopyOutResponse PgWireError
-copy_out_response_of ctx bytes =
-    all_of (made_at (λ p. record { format = p.0; columns = p.1; column_formats = p.2 }) columns_at
-    bytes)
-
-abbrev pub SpellsCopyOutResponse : CopyOutResponse → List ℕ → Type 0
-SpellsCopyOutResponse m = SpellsColumns (m.format, m.columns, m.column_formats)
-
-unfoldable pub copy_both_response_of : DecodeContext → List ℕ
-    → Result CopyBothResponse PgWireError
-copy_both_response_of ctx bytes =
-    all_of (made_at (λ p. record { format = p.0; columns = p.1; column_formats = p.2 }) columns_at
-    bytes)
-
-abbrev pub SpellsCopyBothResponse : CopyBothResponse → List ℕ → Type 0
-SpellsCopyBothResponse m = SpellsColumns (m.format, m.columns, m.column_formats)
+abbrev pub SpellsCopyResponse : {byte : ℕ} → CopyResponse byte → List ℕ → Type 0
+SpellsCopyResponse m = SpellsColumns (m.format, m.columns, m.column_formats)

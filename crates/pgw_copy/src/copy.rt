@@ -4,6 +4,7 @@ pub use crate::data::{
     MESSAGE_TYPE_BYTE_COPY_FAIL,
 };
 pub use crate::response::{
-    CopyBothResponse, CopyInResponse, CopyOutResponse, MESSAGE_TYPE_BYTE_COPY_BOTH_RESPONSE,
-    MESSAGE_TYPE_BYTE_COPY_IN_RESPONSE, MESSAGE_TYPE_BYTE_COPY_OUT_RESPONSE,
+    CopyBothResponse, CopyInResponse, CopyOutResponse, CopyResponse,
+    MESSAGE_TYPE_BYTE_COPY_BOTH_RESPONSE, MESSAGE_TYPE_BYTE_COPY_IN_RESPONSE,
+    MESSAGE_TYPE_BYTE_COPY_OUT_RESPONSE,
 };

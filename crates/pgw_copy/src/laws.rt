@@ -7,11 +7,9 @@ ghost use Rattle.pgw_wire.specs.Formats.{IsRow, SpellsTyped};
 ghost use Rattle.pgw_types.specs.declared.context.DecodeContext.{DecodeContext as TheContext};
 ghost use Rattle.pgw_copy.specs.declared.data.CopyData.{CopyData as TheCopyData};
 ghost use Rattle.pgw_copy.specs.declared.data.CopyFail.{CopyFail as TheCopyFail};
-ghost use Rattle.pgw_copy.specs.declared.response.CopyInResponse.{CopyInResponse as TheCopyInResponse};
-ghost use Rattle.pgw_copy.specs.declared.response.CopyOutResponse.{CopyOutResponse as TheCopyOutResponse};
-ghost use Rattle.pgw_copy.specs.declared.response.CopyBothResponse.{CopyBothResponse as TheCopyBothResponse};
+ghost use Rattle.pgw_copy.specs.declared.response.CopyResponse.{CopyResponse as TheCopyResponse};
 ghost use Rattle.pgw_copy.specs.Sound.{IsCopyFail, AreColumns};
-ghost use Rattle.pgw_copy.specs.Rows.{formats, is_miscounted, copy_data_of, SpellsCopyData, copy_done_of, SpellsCopyDone, copy_fail_of, SpellsCopyFail, copy_in_response_of, SpellsCopyInResponse, copy_out_response_of, SpellsCopyOutResponse, copy_both_response_of, SpellsCopyBothResponse};
+ghost use Rattle.pgw_copy.specs.Rows.{formats, is_miscounted, copy_data_of, SpellsCopyData, copy_done_of, SpellsCopyDone, copy_fail_of, SpellsCopyFail, copy_response_of, SpellsCopyResponse};
 ghost use Rattle.pgw_wire.specs.declared.limits.TheConstants.{LARGE_LIMIT, SMALL_BACKEND_LIMIT, SMALL_LIMIT};
 
 /// What is read at the front of some bytes is spelled so, and what is spelled so is read, whatever follows it.
@@ -22,12 +20,8 @@ pub fn rows_are_exact()
         IsRow 99 SMALL_LIMIT (copy_done_of ctx) SpellsCopyDone }
     ensures copy_fail { (ctx : TheContext) →
         IsRow 102 SMALL_LIMIT (copy_fail_of ctx) SpellsCopyFail }
-    ensures copy_in_response { (ctx : TheContext) →
-        IsRow 71 SMALL_BACKEND_LIMIT (copy_in_response_of ctx) SpellsCopyInResponse }
-    ensures copy_out_response { (ctx : TheContext) →
-        IsRow 72 SMALL_BACKEND_LIMIT (copy_out_response_of ctx) SpellsCopyOutResponse }
-    ensures copy_both_response { (ctx : TheContext) →
-        IsRow 87 SMALL_BACKEND_LIMIT (copy_both_response_of ctx) SpellsCopyBothResponse }
+    ensures copy_response { (byte : ℕ) (ctx : TheContext) →
+        IsRow byte SMALL_BACKEND_LIMIT (copy_response_of byte ctx) SpellsCopyResponse }
 {}
 
 /// What is written of a message spells it. CopyDone has no body.
@@ -38,22 +32,10 @@ pub fn what_is_written_is_spelled()
     ensures copy_fail { (m : TheCopyFail) (g : List ℕ) → IsCopyFail m →
         encoded (Typed 102) SMALL_LIMIT (refused_if (has_zero m.message)) (text m.message) ≡ Ok g →
         SpellsTyped 102 SMALL_LIMIT SpellsCopyFail m g }
-    ensures copy_in_response { (m : TheCopyInResponse) (g : List ℕ) →
+    ensures copy_response { (byte : ℕ) (m : TheCopyResponse byte) (g : List ℕ) →
         AreColumns m.format m.columns m.column_formats →
-        encoded (Typed 71) SMALL_BACKEND_LIMIT
+        encoded (Typed byte) SMALL_BACKEND_LIMIT
         (refused_if (is_miscounted m.columns m.column_formats))
         (formats m.format m.columns m.column_formats) ≡ Ok g →
-        SpellsTyped 71 SMALL_BACKEND_LIMIT SpellsCopyInResponse m g }
-    ensures copy_out_response { (m : TheCopyOutResponse) (g : List ℕ) →
-        AreColumns m.format m.columns m.column_formats →
-        encoded (Typed 72) SMALL_BACKEND_LIMIT
-        (refused_if (is_miscounted m.columns m.column_formats))
-        (formats m.format m.columns m.column_formats) ≡ Ok g →
-        SpellsTyped 72 SMALL_BACKEND_LIMIT SpellsCopyOutResponse m g }
-    ensures copy_both_response { (m : TheCopyBothResponse) (g : List ℕ) →
-        AreColumns m.format m.columns m.column_formats →
-        encoded (Typed 87) SMALL_BACKEND_LIMIT
-        (refused_if (is_miscounted m.columns m.column_formats))
-        (formats m.format m.columns m.column_formats) ≡ Ok g →
-        SpellsTyped 87 SMALL_BACKEND_LIMIT SpellsCopyBothResponse m g }
+        SpellsTyped byte SMALL_BACKEND_LIMIT SpellsCopyResponse m g }
 {}

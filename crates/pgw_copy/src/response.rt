@@ -3,7 +3,7 @@ ghost use Rattle.std.specs.Prelude.{◌≡◌, ◌++◌, OnOk};
 ghost use Rattle.pgw_wire.specs.declared.framing.Framing.TheVariants.{Typed};
 ghost use Rattle.pgw_wire.specs.Reading.{Reads};
 ghost use Rattle.pgw_wire.specs.Writing.{refused_if};
-ghost use Rattle.pgw_copy.specs.Rows.{columns_at, formats, is_miscounted as is_miscounted_list, copy_in_response_of, copy_out_response_of, copy_both_response_of};
+ghost use Rattle.pgw_copy.specs.Rows.{columns_at, formats, is_miscounted as is_miscounted_list, copy_response_of};
 ghost use Rattle.pgw_wire.specs.declared.limits.TheConstants.{SMALL_BACKEND_LIMIT};
 
 use pgw_types::context::DecodeContext;
@@ -59,16 +59,25 @@ fn put_formats(
     put_list(out, column_formats)
 }
 
-/// The server waits for data (CopyInResponse).
+/// What a server answers to COPY: CopyInResponse, CopyOutResponse or CopyBothResponse, by its type byte.
 #[derive(Debug, Drop, PartialEq, Eq)]
-pub struct CopyInResponse {
+pub struct CopyResponse<const TYPE: u8> {
     pub format: i8,
     pub columns: i16,
     pub column_formats: Listed<i16>,
 }
 
-impl CopyInResponse {
-    pub fn new(format: i8, columns: i16, column_formats: Listed<i16>) -> CopyInResponse
+/// The server waits for data.
+pub type CopyInResponse = CopyResponse<MESSAGE_TYPE_BYTE_COPY_IN_RESPONSE>;
+
+/// The server sends data.
+pub type CopyOutResponse = CopyResponse<MESSAGE_TYPE_BYTE_COPY_OUT_RESPONSE>;
+
+/// Data goes both ways.
+pub type CopyBothResponse = CopyResponse<MESSAGE_TYPE_BYTE_COPY_BOTH_RESPONSE>;
+
+impl<const TYPE: u8> CopyResponse<TYPE> {
+    pub fn new(format: i8, columns: i16, column_formats: Listed<i16>) -> CopyResponse<TYPE>
         ensures { result ≡ record {
           format = format;
           columns = columns;
@@ -76,7 +85,7 @@ impl CopyInResponse {
               column_formats;
         } }
     {
-        CopyInResponse {
+        CopyResponse {
             format,
             columns,
             column_formats,
@@ -84,19 +93,19 @@ impl CopyInResponse {
     }
 }
 
-impl Message for CopyInResponse {
-    ghost row_framing = { Typed 71 };
+impl<const TYPE: u8> Message for CopyResponse<TYPE> {
+    ghost row_framing = { Typed TYPE };
 
     ghost limit = { SMALL_BACKEND_LIMIT };
 
-    ghost reading = { copy_in_response_of };
+    ghost reading = { copy_response_of TYPE };
 
     ghost written = { λ m. formats m.format m.columns m.column_formats };
 
     ghost fault = { λ m. refused_if (is_miscounted_list m.columns m.column_formats) };
 
     fn framing() -> Framing {
-        Framing::Typed(MESSAGE_TYPE_BYTE_COPY_IN_RESPONSE)
+        Framing::Typed(TYPE)
     }
 
     fn max_message_length() -> usize {
@@ -121,16 +130,16 @@ impl Message for CopyInResponse {
         )
     }
 
-    #[tactic(auto, unfolding(crate::specs::Rows::copy_in_response_of))]
+    #[tactic(auto, unfolding(crate::specs::Rows::copy_response_of))]
     fn decode_body(
         alloc: Global,
         body: &Octets,
         _ctx: &DecodeContext,
-    ) -> PgWireResult<CopyInResponse> {
+    ) -> PgWireResult<CopyResponse<TYPE>> {
         let mut reader = FieldReader::new(body);
         let (format, columns, column_formats) = take_formats(alloc, &mut reader)?;
         reader.finish()?;
-        Ok(CopyInResponse {
+        Ok(CopyResponse {
             format,
             columns,
             column_formats,
@@ -138,187 +147,9 @@ impl Message for CopyInResponse {
     }
 }
 
-/// The server sends data (CopyOutResponse).
-#[derive(Debug, Drop, PartialEq, Eq)]
-pub struct CopyOutResponse {
-    pub format: i8,
-    pub columns: i16,
-    pub column_formats: Listed<i16>,
-}
-
-impl CopyOutResponse {
-    pub fn new(format: i8, columns: i16, column_formats: Listed<i16>) -> CopyOutResponse
-        ensures { result ≡ record {
-          format = format;
-          columns = columns;
-          column_formats =
-              column_formats;
-        } }
-    {
-        CopyOutResponse {
-            format,
-            columns,
-            column_formats,
-        }
-    }
-}
-
-impl Message for CopyOutResponse {
-    ghost row_framing = { Typed 72 };
-
-    ghost limit = { SMALL_BACKEND_LIMIT };
-
-    ghost reading = { copy_out_response_of };
-
-    ghost written = { λ m. formats m.format m.columns m.column_formats };
-
-    ghost fault = { λ m. refused_if (is_miscounted_list m.columns m.column_formats) };
-
-    fn framing() -> Framing {
-        Framing::Typed(MESSAGE_TYPE_BYTE_COPY_OUT_RESPONSE)
-    }
-
-    fn max_message_length() -> usize {
-        SMALL_BACKEND_LIMIT
-    }
-
-    #[tactic(auto, unfolding(pgw_wire::specs::Writing::i16))]
-    fn message_length(&self) -> usize {
-        list_len(self.column_formats.as_slice(), 7)
-    }
-
-    fn refusal(&self) -> Option<PgWireError> {
-        refused_if(is_miscounted(self.columns, self.column_formats.as_slice()))
-    }
-
-    fn put_body(&self, out: &mut Writer) -> Result<(), OutOfMemory> {
-        put_formats(
-            out,
-            self.format,
-            self.columns,
-            self.column_formats.as_slice(),
-        )
-    }
-
-    #[tactic(auto, unfolding(crate::specs::Rows::copy_out_response_of))]
-    fn decode_body(
-        alloc: Global,
-        body: &Octets,
-        _ctx: &DecodeContext,
-    ) -> PgWireResult<CopyOutResponse> {
-        let mut reader = FieldReader::new(body);
-        let (format, columns, column_formats) = take_formats(alloc, &mut reader)?;
-        reader.finish()?;
-        Ok(CopyOutResponse {
-            format,
-            columns,
-            column_formats,
-        })
-    }
-}
-
-/// Data goes both ways (CopyBothResponse).
-#[derive(Debug, Drop, PartialEq, Eq)]
-pub struct CopyBothResponse {
-    pub format: i8,
-    pub columns: i16,
-    pub column_formats: Listed<i16>,
-}
-
-impl CopyBothResponse {
-    pub fn new(format: i8, columns: i16, column_formats: Listed<i16>) -> CopyBothResponse
-        ensures { result ≡ record {
-          format = format;
-          columns = columns;
-          column_formats =
-              column_formats;
-        } }
-    {
-        CopyBothResponse {
-            format,
-            columns,
-            column_formats,
-        }
-    }
-}
-
-impl Message for CopyBothResponse {
-    ghost row_framing = { Typed 87 };
-
-    ghost limit = { SMALL_BACKEND_LIMIT };
-
-    ghost reading = { copy_both_response_of };
-
-    ghost written = { λ m. formats m.format m.columns m.column_formats };
-
-    ghost fault = { λ m. refused_if (is_miscounted_list m.columns m.column_formats) };
-
-    fn framing() -> Framing {
-        Framing::Typed(MESSAGE_TYPE_BYTE_COPY_BOTH_RESPONSE)
-    }
-
-    fn max_message_length() -> usize {
-        SMALL_BACKEND_LIMIT
-    }
-
-    #[tactic(auto, unfolding(pgw_wire::specs::Writing::i16))]
-    fn message_length(&self) -> usize {
-        list_len(self.column_formats.as_slice(), 7)
-    }
-
-    fn refusal(&self) -> Option<PgWireError> {
-        refused_if(is_miscounted(self.columns, self.column_formats.as_slice()))
-    }
-
-    fn put_body(&self, out: &mut Writer) -> Result<(), OutOfMemory> {
-        put_formats(
-            out,
-            self.format,
-            self.columns,
-            self.column_formats.as_slice(),
-        )
-    }
-
-    #[tactic(auto, unfolding(crate::specs::Rows::copy_both_response_of))]
-    fn decode_body(
-        alloc: Global,
-        body: &Octets,
-        _ctx: &DecodeContext,
-    ) -> PgWireResult<CopyBothResponse> {
-        let mut reader = FieldReader::new(body);
-        let (format, columns, column_formats) = take_formats(alloc, &mut reader)?;
-        reader.finish()?;
-        Ok(CopyBothResponse {
-            format,
-            columns,
-            column_formats,
-        })
-    }
-}
-
-impl Duplicate for CopyInResponse {
-    fn duplicate(&self) -> Result<CopyInResponse, OutOfMemory> {
-        Ok(CopyInResponse {
-            format: self.format,
-            columns: self.columns,
-            column_formats: self.column_formats.duplicate()?,
-        })
-    }
-}
-
-impl Duplicate for CopyOutResponse {
-    fn duplicate(&self) -> Result<CopyOutResponse, OutOfMemory> {
-        Ok(CopyOutResponse {
-            format: self.format,
-            columns: self.columns,
-            column_formats: self.column_formats.duplicate()?,
-        })
-    }
-}
-
-impl Duplicate for CopyBothResponse {
-    fn duplicate(&self) -> Result<CopyBothResponse, OutOfMemory> {
-        Ok(CopyBothResponse {
+impl<const TYPE: u8> Duplicate for CopyResponse<TYPE> {
+    fn duplicate(&self) -> Result<CopyResponse<TYPE>, OutOfMemory> {
+        Ok(CopyResponse {
             format: self.format,
             columns: self.columns,
             column_formats: self.column_formats.duplicate()?,

@@ -304,7 +304,7 @@ gss_read ctx g rest h =
     (wire_front Code 10000 (gss_enc_request_of ctx) (g ++ rest)) (record {}) rest
     (gss_again ctx (record {}) g rest h)
 
-startup_long : (m : Startup) (g rest : List ℕ) → SpellsUntyped 10000 SpellsStartup m g → 8 ≤ length (g ++ rest)
+pub startup_long : (m : Startup) (g rest : List ℕ) → SpellsUntyped 10000 SpellsStartup m g → 8 ≤ length (g ++ rest)
 startup_long m g rest h =
     let major = h.5.1 in
     let minor = major.4 in

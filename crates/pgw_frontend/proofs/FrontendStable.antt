@@ -32,7 +32,7 @@ either false = inr refl
 
 -- ---- what stands at the same place
 
-cut_same : (i j n : ℕ) (a b : List ℕ) → i + j ≤ n → take n b ≡ take n a → take j (drop i b) ≡ take j (drop i a)
+pub cut_same : (i j n : ℕ) (a b : List ℕ) → i + j ≤ n → take n b ≡ take n a → take j (drop i b) ≡ take j (drop i a)
 cut_same i j n a b le same =
     let shorter : take (i + j) b ≡ take (i + j) a =
     sym (take-take (i + j) n b le) ∙ ap (λ (x : List ℕ). take (i + j) x) same ∙ take-take (i + j) n a le in
@@ -156,7 +156,7 @@ untyped_stable read law =
     (untyped_long 4 10000 read law)
 
 -- with its code, a CancelRequest stands as a message without a type byte does
-opening_is : {M : Type 0} (code limit : ℕ) (read : List ℕ → Result M PgWireError) (b : List ℕ)
+pub opening_is : {M : Type 0} (code limit : ℕ) (read : List ℕ → Result M PgWireError) (b : List ℕ)
     → ltb (length b) 8 ≡ false → eqb (code_in b) code ≡ true
     → wire_front (Opening code) limit read b ≡ wire_front Untyped limit read b
 unfolding wire_front frame

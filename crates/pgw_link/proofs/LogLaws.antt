@@ -110,7 +110,7 @@ nothing_left bytes at n room cut is some moves none =
 rest_is : (bytes : List ℕ) (at : ℕ) → take (length bytes - at) (drop at bytes) ≡ drop at bytes
 rest_is bytes at = take_all (length bytes - at) (drop at bytes) (omega (arith, length-drop at bytes))
 
-take_on : (bytes : List ℕ) (at n : ℕ)
+pub take_on : (bytes : List ℕ) (at n : ℕ)
     → take (at + n) bytes ≡ take at bytes ++ take n (take (length bytes - at) (drop at bytes))
 take_on bytes at n = take-add at n bytes ∙ ap (λ (r : List ℕ). take at bytes ++ take n r) (sym (rest_is bytes at))
 
@@ -124,7 +124,7 @@ put_on old bytes at n put was =
 
 -- ---- what was foreseen over several calls
 
-consumes_on : (a b c : Option (List ℕ)) (xs ys : List ℕ) → Consumes a b xs → Consumes b c ys
+pub consumes_on : (a b c : Option (List ℕ)) (xs ys : List ℕ) → Consumes a b xs → Consumes b c ys
     → Consumes a c (xs ++ ys)
 consumes_on None b c xs ys h k = tt
 consumes_on (Some p) None c xs ys h k = absurd h

@@ -1,6 +1,6 @@
 //! A link in memory.
-ghost use Rattle.std.specs.Prelude.{◌≡◌, ◌<◌, ◌≤◌, ◌+◌, ◌*◌, ◌||◌, ◌⊎◌, ℕ, nat_lt, length, take, Some, IfOk, IsOk, OnOk, OnErr, is_err, true, false};
-ghost use Rattle.std.specs.Io.KnownBytes.{Keeps, ReadConsumes, WriteAppends};
+ghost use Rattle.std.specs.Prelude.{◌≡◌, ◌<◌, ◌≤◌, ◌+◌, ◌*◌, ◌||◌, ◌⊎◌, nat_lt, length, take, Some, IfOk, IsOk, OnOk, OnErr, is_err, true, false};
+ghost use Rattle.std.specs.Io.KnownBytes.{ReadConsumes, WriteAppends};
 ghost use Rattle.pgw_types.specs.Counts.{Rose};
 ghost use Rattle.pgw_link.specs.Tape.{new_tape, HasTapeCause, Took, Put, Flushed, LinkFails, Idle};
 ghost use Rattle.pgw_link.specs.Calls.{is_listed, is_reached, call_number};

@@ -60,7 +60,7 @@ impl MemoryDialer {
         self.shut.as_ref()
     }
 
-    /// Counts a dial, and says whether it is refused.
+    // Counts a dial, and says whether it is refused.
     fn is_refusing(&mut self) -> bool
         ensures refused { result ≡ is_dial_refused self.old }
         ensures left { result ≡ false → 0 < length (links_of self.new) }
@@ -81,7 +81,7 @@ impl MemoryDialer {
         false
     }
 
-    /// Hands out the first link.
+    // Hands out the first link.
     fn hand_out(&mut self) -> MemoryLink
         requires { 0 < length (links_of self.old) }
         ensures links { links_of self.old ≡ result ∷ links_of self.new }

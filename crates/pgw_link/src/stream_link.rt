@@ -83,7 +83,7 @@ impl<S: Read + Write + Drop> StreamLink<S> {
     }
 }
 
-/// Reads once. A call that a signal interrupted is made again.
+// Reads once. A call that a signal interrupted is made again.
 fn read_some<S: Read>(stream: &mut S, buf: &mut [u8]) -> io::Result<usize>
     ensures bound { IfOk result (λ n. n ≤ length buf.new) }
     ensures bytes { ReadConsumes (S.remaining stream.old) (S.remaining stream.new) result buf.new }
@@ -97,7 +97,7 @@ fn read_some<S: Read>(stream: &mut S, buf: &mut [u8]) -> io::Result<usize>
     Err(io::Error::from(ErrorKind::Interrupted))
 }
 
-/// Writes once, a byte or more. A call that a signal interrupted is made again.
+// Writes once, a byte or more. A call that a signal interrupted is made again.
 fn write_some<S: Write>(stream: &mut S, piece: &[u8]) -> io::Result<usize>
     ensures some { IfOk result (λ n. 0 < n) }
     ensures bound { IfOk result (λ n. n ≤ length piece.now) }

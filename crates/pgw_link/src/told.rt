@@ -1,5 +1,5 @@
 //! What faults are called for people.
-ghost use Rattle.std.specs.Prelude.{◌≡◌, Some, codes};
+ghost use Rattle.std.specs.Prelude.{Some, codes};
 
 use crate::dialer::DialError;
 use crate::link::LinkFault;

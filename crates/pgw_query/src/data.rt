@@ -1,7 +1,7 @@
 //! Rows.
-ghost use Rattle.std.specs.Prelude.{◌≡◌, ◌∷◌, [], ◌++◌, ◌||◌, ◌==◌, nat_lt, length, None, OnOk};
+ghost use Rattle.std.specs.Prelude.{◌≡◌, ◌||◌, None};
 ghost use Rattle.std.specs.Int.{w16, w32};
-ghost use Rattle.std.specs.List.{list_any, flat_map};
+ghost use Rattle.std.specs.List.{list_any};
 ghost use Rattle.pgw_wire.specs.declared.framing.Framing.TheVariants.{Typed};
 ghost use Rattle.pgw_wire.specs.Reading.{Reads, nat_at, int_at};
 ghost use Rattle.pgw_wire.specs.Formats.{pair_at};

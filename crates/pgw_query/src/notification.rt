@@ -1,5 +1,5 @@
 //! What another session tells.
-ghost use Rattle.std.specs.Prelude.{◌≡◌, ◌++◌, ◌||◌};
+ghost use Rattle.std.specs.Prelude.{◌≡◌, ◌||◌};
 ghost use Rattle.pgw_wire.specs.declared.framing.Framing.TheVariants.{Typed};
 ghost use Rattle.pgw_wire.specs.Writing.{refused_if};
 ghost use Rattle.pgw_query.specs.Rows.{notification_response_of, notification_response, is_notification_refused};

@@ -3,7 +3,7 @@ ghost use Rattle.std.specs.Prelude.{◌≡◌, ◌++◌, ◌∷◌, [], None, If
 ghost use Rattle.pgw_types.specs.Infos.{fields_of, info_from};
 ghost use Rattle.pgw_wire.specs.declared.framing.Framing.TheVariants.{Typed};
 ghost use Rattle.pgw_wire.specs.Writing.{text, has_zero as holds_zero, refused_if};
-ghost use Rattle.std.specs.List.{list_any, flat_map};
+ghost use Rattle.std.specs.List.{list_any};
 ghost use Rattle.pgw_wire.specs.Codes.{is_code_refused};
 ghost use Rattle.pgw_query.specs.Rows.{status_of_byte, status_byte, ready_for_query_of, command_complete_of, empty_query_response_of, error_response_of, notice_response_of, codes_at, codes, codes_fault};
 ghost use Rattle.pgw_wire.specs.Reading.{Reads};

@@ -1,5 +1,4 @@
 //! Bytes.
-ghost use Rattle.std.specs.Prelude.{◌≡◌, ◌&&◌, ◌==◌, IsTrue, slice_index};
 ghost use Rattle.pgw_rows.specs.Rows.{GivesValue};
 ghost use Rattle.pgw_rows.specs.Values.{octets_in, octets_of_binary, octets_of_text, or_bad_text};
 

@@ -1,5 +1,5 @@
 //! The parameters of a Bind, made of typed values.
-ghost use Rattle.std.specs.Prelude.{◌≡◌, ◌==◌, [], ◌∷◌, ◌++◌, pos, map, length, IfOk, OnOk, OnErr};
+ghost use Rattle.std.specs.Prelude.{◌≡◌, ◌==◌, [], ◌∷◌, ◌++◌, map, length, IfOk, OnOk, OnErr};
 ghost use Rattle.pgw_rows.specs.Written.{code_of_format, format_code, type_oid, value_bytes, text_parameter, binary_parameter};
 
 use crate::to_sql::ToSql;

@@ -1,5 +1,5 @@
 //! Texts.
-ghost use Rattle.std.specs.Prelude.{◌≡◌, IfOk};
+ghost use Rattle.std.specs.Prelude.{◌≡◌};
 ghost use Rattle.pgw_rows.specs.Rows.{GivesValue};
 ghost use Rattle.pgw_rows.specs.Values.{has_text, is_text, of_type, or_bad_text, value_text, row_value_text, text_of_text};
 

@@ -1,5 +1,5 @@
 //! What a server asks for at login.
-ghost use Rattle.std.specs.Prelude.{◌≡◌, Ok, ◌==◌, ◌∷◌, [], ◌++◌, length, OnOk};
+ghost use Rattle.std.specs.Prelude.{◌≡◌, Ok, ◌∷◌, [], ◌++◌, OnOk};
 ghost use Rattle.std.specs.List.{list_any, flat_map};
 ghost use Rattle.pgw_wire.specs.declared.framing.Framing.TheVariants.{Typed};
 ghost use Rattle.pgw_wire.specs.Reading.{Reads, name_at, octets_at, rest_at, marked_list_at};

@@ -1,5 +1,5 @@
 //! The process number and the key of a connection.
-ghost use Rattle.std.specs.Prelude.{◌≡◌, ◌++◌};
+ghost use Rattle.std.specs.Prelude.{◌≡◌};
 ghost use Rattle.pgw_wire.specs.declared.framing.Framing.TheVariants.{Typed};
 ghost use Rattle.pgw_wire.specs.Keys.{key_fault};
 ghost use Rattle.pgw_startup.specs.Login.{backend_key_data_of, backend_key_data};

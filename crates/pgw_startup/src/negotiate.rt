@@ -1,7 +1,7 @@
 //! The version that a server offers.
-ghost use Rattle.std.specs.Prelude.{◌≡◌, ◌||◌, nat_lt, length, ◌++◌};
+ghost use Rattle.std.specs.Prelude.{◌≡◌, ◌||◌};
 ghost use Rattle.std.specs.Int.{w32};
-ghost use Rattle.std.specs.List.{list_any, flat_map};
+ghost use Rattle.std.specs.List.{list_any};
 ghost use Rattle.pgw_wire.specs.declared.framing.Framing.TheVariants.{Typed};
 ghost use Rattle.pgw_wire.specs.Reading.{Reads, text_at};
 ghost use Rattle.pgw_wire.specs.Formats.{counted_at};

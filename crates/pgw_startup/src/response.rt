@@ -1,5 +1,5 @@
 //! What a server answers to a request for encryption.
-ghost use Rattle.std.specs.Prelude.{◌≡◌, ◌∷◌, [], None};
+ghost use Rattle.std.specs.Prelude.{◌∷◌, [], None};
 ghost use Rattle.pgw_wire.specs.declared.framing.Framing.TheVariants.{OneByte};
 ghost use Rattle.pgw_startup.specs.Response.{ssl_response_of, gss_enc_response_of, ssl_byte, gss_byte};
 ghost use Rattle.pgw_wire.specs.declared.limits.TheConstants.{SMALL_LIMIT};

@@ -7,7 +7,7 @@ use Rattle.std.specs.Fmt.{decimal}
 use Rattle.std.proofs.lemmas.List.{reverse-append}
 use Rattle.std.proofs.lemmas.List.Folds.{find-append}
 use Rattle.pgw_types.specs.declared.error_info.ErrorInfo.{ErrorInfo}
-use Rattle.pgw_types.specs.Infos.{parts_of, info_field, fields_of, last_field_text, line_in, info_from, with_field}
+use Rattle.pgw_types.specs.Infos.{parts_of, info_field, fields_of, last_field_text, source_line, info_from, with_field}
 use Rattle.pgw_types.proofs.NumberLaws.{number_in-decimal}
 
 abbrev Fields : Type 0
@@ -43,7 +43,7 @@ or_empty true text o = refl
 or_empty false text o = refl
 
 lined : (b : Bool) (text : List ℕ) (o : Option (List ℕ))
-    → option_map line_in (cond b (Some text) o) ≡ cond b (Some (line_in text)) (option_map line_in o)
+    → option_map source_line (cond b (Some text) o) ≡ cond b (Some (source_line text)) (option_map source_line o)
 lined true text o = refl
 lined false text o = refl
 
@@ -111,7 +111,7 @@ back : (e : ErrorInfo) (code : ℕ) (o : Option (List ℕ)) → last_part code (
 back e code o h = last_in_parts code (parts_of e) ∙ h ∙ choose-None o
 
 lines_back : (line : Option ℕ) → IfSome line (λ n. n < 2 ^ 64)
-    → option_map line_in (option_map decimal line) ≡ line
+    → option_map source_line (option_map decimal line) ≡ line
 lines_back None h = refl
 lines_back (Some n) h = ap (λ o. Some (unwrap_or o 0)) (number_in-decimal n 64 h h)
 

@@ -127,8 +127,8 @@ abbrev pub last_or_empty : ℕ → List (ℕ × List ℕ) → List ℕ
 last_or_empty code fields = unwrap_or (last_field_text code fields) []
 
 -- a line is a whole number, or else 0
-abbrev pub line_in : List ℕ → ℕ
-line_in text = unwrap_or (number_in 64 text) 0
+abbrev pub source_line : List ℕ → ℕ
+source_line text = unwrap_or (number_in 64 text) 0
 
 unfoldable pub info_from : List (ℕ × List ℕ) → ErrorInfo
 info_from fields = record {
@@ -142,7 +142,7 @@ info_from fields = record {
   internal_query = last_field_text 113 fields;
   where_context = last_field_text 87 fields;
   file_name = last_field_text 70 fields;
-  line = option_map line_in (last_field_text 76 fields);
+  line = option_map source_line (last_field_text 76 fields);
   routine = last_field_text 82 fields;
   severity_nonlocalized = last_field_text 86 fields;
   schema = last_field_text 115 fields;
@@ -165,7 +165,7 @@ with_field e code text = record {
   internal_query = if code == 113 then Some text else e.internal_query;
   where_context = if code == 87 then Some text else e.where_context;
   file_name = if code == 70 then Some text else e.file_name;
-  line = if code == 76 then Some (line_in text) else e.line;
+  line = if code == 76 then Some (source_line text) else e.line;
   routine = if code == 82 then Some text else e.routine;
   severity_nonlocalized = if code == 86 then Some text else e.severity_nonlocalized;
   schema = if code == 115 then Some text else e.schema;

@@ -1,8 +1,8 @@
 //! The parts of an error or a notice.
-ghost use Rattle.std.specs.Prelude.{◌≡◌, ◌↔◌, [], IsTrue, IfOk, option_map};
+ghost use Rattle.std.specs.Prelude.{◌≡◌, ◌↔◌, IsTrue, IfOk, option_map};
 ghost use Rattle.std.specs.List.{filter_map};
 ghost use Rattle.std.specs.Fmt.{decimal};
-ghost use Rattle.pgw_types.specs.Infos.{plain_info, FATAL as FATAL_BYTES, grade_of, info_of, info_field, fields_of, line_in as line_from, info_from, with_field};
+ghost use Rattle.pgw_types.specs.Infos.{plain_info, FATAL as FATAL_BYTES, grade_of, info_of, info_field, fields_of, source_line, info_from, with_field};
 
 use crate::error::PgWireError;
 use crate::listed::{Duplicate, Listed};
@@ -230,7 +230,7 @@ fn line_text(alloc: Global, line: Option<usize>) -> Result<Option<Text>, OutOfMe
 }
 
 fn line_in(text: &Text) -> usize
-    ensures { result ≡ line_from text.now }
+    ensures { result ≡ source_line text.now }
 {
     text.as_str().parse::<usize>().unwrap_or(0)
 }

@@ -2,7 +2,7 @@
 ghost use Rattle.std.specs.Prelude.{◌≡◌, ◌≤◌, ◌+◌, length};
 ghost use Rattle.pgw_wire.specs.Header.{MessageEndsAt, length_at};
 
-/// The number of bytes before a message's body.
+// The number of bytes before a message's body.
 const HEADER: usize = 5;
 
 /// The length field at the place, as it stands.

@@ -3,7 +3,7 @@ ghost use Rattle.std.specs.Prelude.{◌≡◌, ◌↔◌, ◌++◌, pos, IsTrue,
 ghost use Rattle.pgw_wire.specs.Reading.{Gives};
 ghost use Rattle.pgw_wire.specs.Framing.{Appends, body_or};
 ghost use Rattle.pgw_wire.specs.declared.secret_key.SecretKey.TheVariants.{I32, Bytes as KeyBytes};
-ghost use Rattle.pgw_wire.specs.Keys.{is_no_key as has_no_key, key_int, key_of, key_bytes, key_fault, key_number};
+ghost use Rattle.pgw_wire.specs.Keys.{is_no_key as has_no_key, key_of, key_bytes, key_fault, key_number};
 
 use crate::writer::{Writer, append, put_i32};
 use bytes::BytesMut;

@@ -25,9 +25,7 @@ use Rattle.pgw_query.specs.declared.data.DataRow.{DataRow}
 use Rattle.pgw_copy.specs.declared.data.CopyData.{CopyData}
 use Rattle.pgw_copy.specs.declared.data.CopyDone.{CopyDone}
 use Rattle.pgw_copy.specs.declared.data.CopyFail.{CopyFail}
-use Rattle.pgw_copy.specs.declared.response.CopyInResponse.{CopyInResponse}
-use Rattle.pgw_copy.specs.declared.response.CopyOutResponse.{CopyOutResponse}
-use Rattle.pgw_copy.specs.declared.response.CopyBothResponse.{CopyBothResponse}
+use Rattle.pgw_copy.specs.declared.response.CopyResponse.{CopyResponse}
 use Rattle.pgw_wire.proofs.EqualLaws.{made_exact, none_exact, sum_exact, field_exact}
 use Rattle.pgw_backend.proofs.equality.equality_is_exact.Goals as goal
 
@@ -57,8 +55,8 @@ Kinds =
     ((CopyData × Unit {0}) ⊎
     ((CopyDone × Unit {0}) ⊎
     ((CopyFail × Unit {0})
-    ⊎ ((CopyInResponse × Unit {0}) ⊎
-    ((CopyOutResponse × Unit {0}) ⊎ ((CopyBothResponse × Unit {0}) ⊎ ⊥)))))))))))))))))))))))))
+    ⊎ ((CopyResponse 71 × Unit {0}) ⊎
+    ((CopyResponse 72 × Unit {0}) ⊎ ((CopyResponse 87 × Unit {0}) ⊎ ⊥)))))))))))))))))))))))))
 
 from_kind : Kinds → PgWireBackendMessage
 from_kind (inl x) = backend.SslResponse x.0
@@ -171,10 +169,10 @@ returns c =
     (sum_exact _ _ (field_exact _ (c.equality_is_exact-4.ensures.copy_done))
     (sum_exact _ _ (field_exact _ (c.equality_is_exact-4.ensures.copy_fail))
     (sum_exact _ _ (field_exact _
-    (c.equality_is_exact-4.ensures.copy_in_response))
+    (c.response_equality_is_exact.ensures))
     (sum_exact _ _ (field_exact _
-    (c.equality_is_exact-4.ensures.copy_out_response))
+    (c.response_equality_is_exact-2.ensures))
     (sum_exact _ _ (field_exact _
-    (c.equality_is_exact-4.ensures.copy_both_response))
+    (c.response_equality_is_exact-3.ensures))
     (none_exact (λ x y. absurd
     x))))))))))))))))))))))))))))

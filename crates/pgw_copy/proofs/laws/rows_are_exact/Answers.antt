@@ -1,14 +1,10 @@
-use Rattle.pgw_copy.proofs.RowLaws.{copy_data, copy_done, copy_fail, copy_in_response, copy_out_response, copy_both_response}
+use Rattle.pgw_copy.proofs.RowLaws.{copy_data, copy_done, copy_fail, copy_response}
 use Rattle.pgw_copy.proofs.laws.rows_are_exact.Goals as goal
 
 pub returns : goal.returns
-returns c =
-    record {
-      copy_data = copy_data;
-      copy_done = copy_done;
-      copy_fail = copy_fail;
-      copy_in_response =
-          copy_in_response;
-      copy_out_response = copy_out_response;
-      copy_both_response = copy_both_response;
-    }
+returns c = record {
+  copy_data = copy_data;
+  copy_done = copy_done;
+  copy_fail = copy_fail;
+  copy_response = copy_response;
+}

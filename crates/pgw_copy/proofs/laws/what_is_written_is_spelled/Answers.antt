@@ -1,8 +1,8 @@
 use Rattle.std.proofs.Common.{None, refl, lit<}
 use Rattle.pgw_wire.specs.Writing.{text, has_zero, refused_if}
 use Rattle.pgw_wire.proofs.WrittenLaws.{text_written, typed_written, unrefused}
-use Rattle.pgw_copy.specs.Rows.{formats, is_miscounted, SpellsCopyData, SpellsCopyFail, SpellsCopyInResponse, SpellsCopyOutResponse, SpellsCopyBothResponse}
-use Rattle.pgw_copy.proofs.RowsWritten.{columns_written}
+use Rattle.pgw_copy.specs.Rows.{SpellsCopyData, SpellsCopyFail}
+use Rattle.pgw_copy.proofs.RowsWritten.{copy_response_written}
 use Rattle.pgw_copy.proofs.laws.what_is_written_is_spelled.Goals as goal
 
 pub returns : goal.returns
@@ -12,16 +12,5 @@ returns c = record {
   copy_fail =
       λ m g sound is. typed_written 102 10000 SpellsCopyFail m (refused_if (has_zero m.message)) (text m.message)
       g (lit< tt) is (λ fine. text_written m.message (unrefused _ fine) sound);
-  copy_in_response =
-      λ m g sound is. typed_written 71 30000 SpellsCopyInResponse m
-      (refused_if (is_miscounted m.columns m.column_formats)) (formats m.format m.columns m.column_formats) g
-      (lit< tt) is (λ fine. columns_written m.format m.columns m.column_formats sound fine);
-  copy_out_response =
-      λ m g sound is. typed_written 72 30000 SpellsCopyOutResponse m
-      (refused_if (is_miscounted m.columns m.column_formats)) (formats m.format m.columns m.column_formats) g
-      (lit< tt) is (λ fine. columns_written m.format m.columns m.column_formats sound fine);
-  copy_both_response =
-      λ m g sound is. typed_written 87 30000 SpellsCopyBothResponse m
-      (refused_if (is_miscounted m.columns m.column_formats)) (formats m.format m.columns m.column_formats) g
-      (lit< tt) is (λ fine. columns_written m.format m.columns m.column_formats sound fine);
+  copy_response = copy_response_written;
 }
