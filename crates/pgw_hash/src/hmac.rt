@@ -1,9 +1,8 @@
 //! HMAC with SHA-256.
 ghost use Rattle.std.specs.Prelude.{◌≡◌, ℕ, ◌≤◌, List, [], ◌++◌, length};
-ghost use Rattle.sha2.specs.Sha256.{sha256};
 ghost use Rattle.sha2.specs.Hashers.{Holds256};
 ghost use Rattle.pgw_hash.specs.Xor.{xor};
-ghost use Rattle.pgw_hash.specs.Hmac.{hmac_sha256, block_key, zero_filled, ipad, opad};
+ghost use Rattle.pgw_hash.specs.Hmac.{hmac_sha256, block_key, zero_filled};
 ghost use Rattle.pgw_hash.specs.Codes.{HasTaken};
 
 use crate::xor::xor_into;

@@ -1,7 +1,6 @@
 //! The MD5 password.
 ghost use Rattle.std.specs.Prelude.{◌≡◌, ◌++◌, IfOk};
 ghost use Rattle.md5.specs.Md5.{md5};
-ghost use Rattle.hex.specs.Hex.{encode_lower};
 ghost use Rattle.pgw_hash.specs.Md5Password.{md5_hex, md5_password};
 
 use md5::{Digest, Md5};

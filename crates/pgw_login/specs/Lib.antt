@@ -10,6 +10,7 @@ pub mod Provider
 pub mod Registered
 pub mod Finish
 pub mod Hearing
+pub mod Password
 pub mod Cleartext
 pub mod Md5
 pub mod Noop

@@ -1,5 +1,5 @@
 //! The end of a login.
-ghost use Rattle.std.specs.Prelude.{◌≡◌, ℕ, [], ◌∷◌, ◌++◌, map, Option, OnOk, IfOk};
+ghost use Rattle.std.specs.Prelude.{◌≡◌, ℕ, [], ◌++◌, map, Option, OnOk, IfOk};
 ghost use Rattle.std.specs.FinMap as finite;
 ghost use Rattle.pgw_wire.specs.Pairs.{Held};
 ghost use Rattle.pgw_login.specs.Acts.{standing_in_login, Did, IsReleasable};

@@ -15,6 +15,7 @@ pub mod md5;
 pub mod negotiation;
 pub mod noop;
 pub mod outbox;
+pub mod password;
 pub mod provider;
 pub mod registers;
 pub mod source;
@@ -22,19 +23,23 @@ pub mod state;
 
 pub use crate::acts::{feed_all, send};
 pub use crate::cancel::{CancelHandler, DefaultCancelHandler, ErrorHandler, PgWireServerHandlers};
-pub use crate::cleartext::{CleartextPasswordAuthStartupHandler, wrong_password};
+pub use crate::cleartext::{
+    CleartextPassword, CleartextPasswordAuthStartupHandler, cleartext_handlers_act,
+    cleartext_is_asked_for,
+};
 pub use crate::client_info::{
     ClientInfo, DEFAULT_NAME, DefaultClient, METADATA_APPLICATION_NAME, METADATA_CLIENT_ENCODING,
     METADATA_DATABASE, METADATA_USER, PgWireConnectionState,
 };
 pub use crate::finish::{accept, draw, enroll, finish_authentication, introduce, ready};
 pub use crate::handler::{Heard, StartupHandler};
-pub use crate::md5::Md5PasswordAuthStartupHandler;
+pub use crate::md5::{Md5Password, Md5PasswordAuthStartupHandler, md5_handlers_act};
 pub use crate::negotiation::{
     ask, begin, open_login, protocol_negotiation, save_startup_parameters_to_metadata,
 };
 pub use crate::noop::{NoopHandler, NoopStartupHandler, noop_startup};
 pub use crate::outbox::{ByteOutbox, Outbox};
+pub use crate::password::{Challenge, PasswordMethod, PasswordStartupHandler, wrong_password};
 pub use crate::provider::{DefaultServerParameterProvider, ServerParameterProvider};
 pub use crate::registers::{Managed, NoRegistry, Registers};
 pub use crate::source::{AuthSource, LoginInfo, SecretSource};

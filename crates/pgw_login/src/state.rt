@@ -2,6 +2,7 @@
 ghost use Rattle.std.specs.Prelude.{◌≡◌, ℕ, [], None, false};
 ghost use Rattle.pgw_login.specs.Client.{LoginClient};
 ghost use Rattle.pgw_login.specs.Acts.{standing_in_login, StartsLogin, LoginAwaits, IsSameSource, with_sasl, login_by_answer, IsReleasable};
+ghost use Rattle.pgw_login.specs.Password.{with_kept};
 ghost use Rattle.pgw_login.specs.Registered.{CanRelease, guard_of, pair_handle};
 ghost use Rattle.pgw_login.specs.declared.state.SASLState.TheVariants.{Initial};
 
@@ -119,6 +120,15 @@ impl LoginState {
         match &self.sasl {
             SASLState::Initial if self.started => Ok(()),
             _ => Err(PgWireError::InvalidSASLState),
+        }
+    }
+
+    // Keeps a text for the password that is to come, if there is one.
+    pub(crate) fn keep(&mut self, text: Option<Octets>)
+        ensures { self.new ≡ with_kept text self.old }
+    {
+        if let Some(text) = text {
+            self.kept = Some(text);
         }
     }
 

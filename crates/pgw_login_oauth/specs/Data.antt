@@ -4,15 +4,10 @@ use Rattle.std.specs.List.{list_all}
 use Rattle.std.specs.Option.{option_copied}
 use Rattle.std.specs.Cmp.Lexicographic.{pointwise}
 use Rattle.std.specs.Prelude.{nat_eq}
+use Rattle.pgw_types.specs.Results.{◌>>=◌}
 use Rattle.pgw_types.specs.Marks.{before_mark, behind_mark, pieces_at}
 use Rattle.pgw_types.specs.declared.error.OauthFault.{OauthFault}
 use Rattle.pgw_types.specs.declared.error.OauthFault.TheVariants as fault
-
-infixl 10 ◌>>=◌
-abbrev pub ◌>>=◌ : {A B : Type 0} → Result A OauthFault → (A → Result B OauthFault)
-    → Result B OauthFault
-(Ok x) >>= f = f x
-(Err e) >>= f = Err e
 
 -- an ASCII letter
 abbrev pub is_letter : ℕ → Bool

@@ -10,7 +10,7 @@ use pgw_types::error::{OauthFault, PgWireError, PgWireResult};
 use pgw_types::marks::{cut_at, pieces_at};
 use std::alloc::Global;
 
-/// What separates the pairs.
+// What separates the pairs.
 const SEPARATOR: u8 = 1;
 
 fn is_letter(byte: u8) -> bool

@@ -35,7 +35,7 @@ use Rattle.pgw_frontend.specs.FrontendTexts.{IsSoundFrontend}
 use Rattle.pgw_frontend.specs.declared.frontend.SslNegotiationMetaMessage.TheVariants as negotiation
 use Rattle.pgw_frontend.specs.declared.frontend.PgWireFrontendMessage.{PgWireFrontendMessage as Frontend}
 use Rattle.pgw_frontend.specs.declared.frontend.PgWireFrontendMessage.TheVariants as frontend
-use Rattle.pgw_frontend.proofs.FrontendLaws.{frontend_again}
+use Rattle.pgw_frontend.proofs.FrontendLaws.{frontend_again, startup_long}
 use Rattle.pgw_frontend.proofs.FrontendWritten.{frontend_written}
 use Rattle.pgw_machine.specs.Course.{Whole}
 use Rattle.pgw_machine.specs.Fronts.{IsReadAs}
@@ -76,25 +76,6 @@ no_code code great m g rest small h =
     (omega (arith, length-append major.0 minor.0, major.3.0, minor.3.0))
     ∙ ap (λ (l : List ℕ). eqb (from_be_bytes w32 l) code) is ∙ ne_eqb _ _ (λ e. omega (arith, e, less, great))
 
-startup_long : (m : Startup) (g rest : List ℕ) → SpellsUntyped 10000 SpellsStartup m g
-    → ltb (length (g ++ rest)) 8 ≡ false
-startup_long m g rest h =
-    let major = h.5.1 in
-    let minor = major.4 in
-    le-ltb _ _ (omega (
-      arith,
-      length-append g rest,
-      ap length h.2,
-      length-append h.0 h.1,
-      h.3.0,
-      ap length major.2,
-      length-append major.0 major.1,
-      major.3.0,
-      ap length minor.2,
-      length-append minor.0 minor.1,
-      minor.3.0,
-    ))
-
 other : {X : Type 0} (b : Bool) (x y : X) → b ≡ false → cond b x y ≡ y
 other true x y h = absurd cc
 other false x y h = refl
@@ -105,7 +86,7 @@ none_asked : (v : ProtocolVersion) (m : Startup) (g rest : List ℕ) → m.proto
     (Some (frontend.SslNegotiation negotiation.None, g ++ rest))
 unfolding frontend_front negotiation_front
 none_asked v m g rest small h =
-    other (ltb (length (g ++ rest)) 8) _ _ (startup_long m g rest h)
+    other (ltb (length (g ++ rest)) 8) _ _ (le-ltb _ _ (startup_long m g rest h))
     ∙ other (has_code 80877103 (g ++ rest)) _ _ (no_code 80877103 (lit≤ tt) m g rest small h)
     ∙ other (has_code 80877104 (g ++ rest)) _ _ (no_code 80877104 (lit≤ tt) m g rest small h)
 

@@ -22,6 +22,8 @@ use Rattle.pgw_session.specs.Table.{news_or, by_welcome}
 use Rattle.pgw_session.specs.Talk.{Talk, Ending, between, talk_book, heard_of}
 use Rattle.pgw_config.specs.declared.config.Config.{Config}
 use Rattle.pgw_login_server.specs.Server.{server_encodings}
+use Rattle.pgw_login_server.proofs.ServerLaws.{known, none_after, one_more, no_more, told_from}
+use Rattle.pgw_wire.proofs.Laws.{ok_is}
 use Rattle.pgw_login.specs.Finish.{login_ready}
 use Rattle.pgw_login.specs.Sending.{and_encoding}
 use Rattle.pgw_wire.specs.Reading.{◌>>=◌}
@@ -30,44 +32,6 @@ use Rattle.pgw_login_pair.proofs.Readings.{reads_backend}
 use Rattle.pgw_login_pair.proofs.ClientRungs.{talking, over_by, given, rules, LeadsClient, does, does_end, does_on}
 
 -- ---- some encodings are the first and the others
-
-ok_is : {A E : Type 0} (x y : A) → ◌≡◌ {A = Result A E} (Ok x) (Ok y) → x ≡ y
-ok_is x y e = cc
-
-known : {A E : Type 0} (r : Result A E) → ((x : A) × (r ≡ Ok x)) ⊎ ((e : E) × (r ≡ Err e))
-known (Ok x) = inl (x, refl)
-known (Err e) = inr (e, refl)
-
-none_after : (e : PgWireError) (ms : List Backend) → fold and_encoding (Err e) ms ≡ Err e
-none_after e [] = refl
-none_after e (m ∷ ms) = none_after e ms
-
-one_more : (bytes more : List ℕ) (m : Backend) → backend_encoding m ≡ Ok more
-    → and_encoding (Ok bytes) m ≡ Ok (bytes ++ more)
-one_more bytes more m is = ap (λ (r : Result (List ℕ) PgWireError). r >>= (λ more. Ok (bytes ++ more))) is
-
-no_more : (bytes : List ℕ) (e : PgWireError) (m : Backend) → backend_encoding m ≡ Err e
-    → and_encoding (Ok bytes) m ≡ Err e
-no_more bytes e m is = ap (λ (r : Result (List ℕ) PgWireError). r >>= (λ more. Ok (bytes ++ more))) is
-
-told_from : (old acc new : List ℕ) (ms : List Backend) → fold and_encoding (Ok (old ++ acc)) ms ≡ Ok new
-    → (put : List ℕ) × (fold and_encoding (Ok acc) ms ≡ Ok put) × (new ≡ old ++ put)
-told_from old acc new [] e = (acc, refl, sym (ok_is (old ++ acc) new e))
-told_from old acc new (m ∷ ms) e = elim (known (backend_encoding m)) [
-  | inl k ↦
-      let both : and_encoding (Ok (old ++ acc)) m ≡ Ok (old ++ (acc ++ k.0)) =
-      one_more (old ++ acc) k.0 m k.1 ∙ ap (λ (l : List ℕ). Ok l) (append_assoc old acc k.0) in
-      let rest : fold and_encoding (Ok (old ++ (acc ++ k.0))) ms ≡ Ok new =
-      sym (ap (λ (s : Result (List ℕ) PgWireError). fold and_encoding s ms) both) ∙ e in
-      let t = told_from old (acc ++ k.0) new ms rest in
-      (t.0, ap (λ (s : Result (List ℕ) PgWireError). fold and_encoding s ms) (one_more acc k.0 m k.1) ∙ t.1, t.2)
-  | inr k ↦
-      let stuck : fold and_encoding (Err k.0) ms ≡ Ok new =
-      sym (ap (λ (s : Result (List ℕ) PgWireError). fold and_encoding s ms) (no_more (old ++ acc) k.0 m k.1))
-      ∙ e in
-      let is = none_after k.0 ms in
-      absurd cc
-]
 
 pub first_put : (m : Backend) (ms : List Backend) (out : List ℕ) → server_encodings (m ∷ ms) ≡ Ok out
     → (g : List ℕ) × (rest : List ℕ) × (backend_encoding m ≡ Ok g) × (server_encodings ms ≡ Ok rest)

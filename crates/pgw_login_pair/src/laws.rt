@@ -6,7 +6,6 @@ ghost use Rattle.atomic_table.specs.Seated.{TableId};
 ghost use Rattle.pgw_types.specs.declared.error.PgWireError.{PgWireError as TheError};
 ghost use Rattle.pgw_machine.specs.declared.event.Event.{Event as TheEvent};
 ghost use Rattle.pgw_backend.specs.declared.backend.PgWireBackendMessage.TheVariants as backend;
-ghost use Rattle.pgw_frontend.specs.Frontend.{encodings as client_encodings};
 ghost use Rattle.pgw_hash.specs.Pbkdf2.{salted_password};
 ghost use Rattle.pgw_hash.specs.Saslprep.{saslprep};
 ghost use Rattle.pgw_scram.specs.Attributes.{IsValue};

@@ -1,15 +1,14 @@
 //! Logins by SASL.
-ghost use Rattle.std.specs.Prelude.{◌≡◌, ◌⊎◌, IfOk, OnOk, Some, None, is_some};
+ghost use Rattle.std.specs.Prelude.{◌≡◌, IfOk, OnOk, Some, None, is_some};
 ghost use Rattle.std.specs.Arc.{arc_value};
 ghost use Rattle.pgw_login.specs.Logins.{login_of};
 ghost use Rattle.pgw_login.specs.Acts.{standing_in_login, Did, Then, Sends, IsSameSource, IsReleasable};
 ghost use Rattle.pgw_login.specs.Client.{LoginClient};
 ghost use Rattle.pgw_login.specs.Opening.{Opens};
 ghost use Rattle.pgw_login.specs.declared.state.LoginState.{LoginState as TheState};
-ghost use Rattle.pgw_login_sasl.specs.Methods.{scram_methods, offered_methods};
-ghost use Rattle.pgw_login_sasl.specs.Replies.{RefusesMethod};
+ghost use Rattle.pgw_login_sasl.specs.Methods.{offered_methods};
 ghost use Rattle.pgw_login_sasl.specs.Scram.{ByScram};
-ghost use Rattle.pgw_login_sasl.specs.Sasl.{Offers, ByOauth, By, ByTurn, Replied, sasl_messages, EndsSaslLogin, RespondsBy, Responds, SaslOn, SaslMeans};
+ghost use Rattle.pgw_login_sasl.specs.Sasl.{Offers, ByOauth, By, Replied, sasl_messages, EndsSaslLogin, RespondsBy, Responds, SaslOn, SaslMeans};
 
 use crate::methods::{
     Method, OAUTHBEARER_METHOD, SCRAM_SHA_256_METHOD, SCRAM_SHA_256_PLUS_METHOD, unsupported,
@@ -383,19 +382,9 @@ impl<A: Drop, P, G, M> SASLAuthStartupHandler<A, P, G, M> {
     pub fn with_scram(self, scram: ScramAuth<A>) -> Self
         ensures { result ≡ record self { scram = Some scram } }
     {
-        let SASLAuthStartupHandler {
-            parameter_provider,
-            generator,
-            registry,
-            scram: _,
-            oauth,
-        } = self;
         SASLAuthStartupHandler {
-            parameter_provider,
-            generator,
-            registry,
             scram: Some(scram),
-            oauth,
+            ..self
         }
     }
 }
@@ -405,19 +394,9 @@ impl<A, P, G, M> SASLAuthStartupHandler<A, P, G, M> {
     pub fn with_oauth(self, oauth: Oauth) -> Self
         ensures { result ≡ record self { oauth = Some oauth } }
     {
-        let SASLAuthStartupHandler {
-            parameter_provider,
-            generator,
-            registry,
-            scram,
-            oauth: _,
-        } = self;
         SASLAuthStartupHandler {
-            parameter_provider,
-            generator,
-            registry,
-            scram,
             oauth: Some(oauth),
+            ..self
         }
     }
 }
@@ -427,20 +406,7 @@ impl<A, P, G: Drop, M> SASLAuthStartupHandler<A, P, G, M> {
     pub fn with_pid_secret_key_generator(self, generator: G) -> Self
         ensures { result ≡ record self { generator = generator } }
     {
-        let SASLAuthStartupHandler {
-            parameter_provider,
-            generator: _,
-            registry,
-            scram,
-            oauth,
-        } = self;
-        SASLAuthStartupHandler {
-            parameter_provider,
-            generator,
-            registry,
-            scram,
-            oauth,
-        }
+        SASLAuthStartupHandler { generator, ..self }
     }
 }
 

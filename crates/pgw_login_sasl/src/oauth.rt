@@ -5,10 +5,9 @@ ghost use Rattle.std.specs.Option.{option_copied};
 ghost use Rattle.pgw_login_oauth.specs.Token.{is_token_byte};
 ghost use Rattle.pgw_types.specs.declared.error.PgWireError.TheVariants.{OutOfMemory as NoMemory};
 ghost use Rattle.pgw_login.specs.Logins.{login_of};
-ghost use Rattle.pgw_wire.specs.Reading.{lossy};
 ghost use Rattle.pgw_startup.specs.Password.{as_response};
 ghost use Rattle.pgw_login_sasl.specs.ErrorText.{IsErrorText};
-ghost use Rattle.pgw_login_sasl.specs.Oauth.{token_of, Judged, data_of, oauth_reply, ByToken, ByData, oauth_end, OauthReplies};
+ghost use Rattle.pgw_login_sasl.specs.Oauth.{token_of, Judged, data_of, ByToken, ByData, oauth_end, OauthReplies};
 
 use crate::error_text::error_text;
 use crate::validator::OauthValidator;

@@ -1,11 +1,7 @@
 //! The server's end of a login by SCRAM, message by message.
-ghost use Rattle.std.specs.Prelude.{◌≡◌, ◌⊎◌, ◌≤◌, ℕ, List, Result, Some, None, Ok, Err, OnOk, OnErr, is_some};
+ghost use Rattle.std.specs.Prelude.{◌≡◌, ◌⊎◌, ◌≤◌, Result, Some, None, Ok, Err, OnOk, OnErr, is_some};
 ghost use Rattle.pgw_types.specs.declared.error.PgWireError.TheVariants.{OutOfMemory as NoMemory};
-ghost use Rattle.pgw_login.specs.Login.{Login};
 ghost use Rattle.pgw_login.specs.Logins.{login_of};
-ghost use Rattle.pgw_login.specs.declared.state.SASLState.{SASLState as TheState};
-ghost use Rattle.pgw_startup.specs.declared.authentication.Authentication.{Authentication as TheReply};
-ghost use Rattle.pgw_startup.specs.declared.password.PasswordMessageFamily.{PasswordMessageFamily as TheMessage};
 ghost use Rattle.pgw_scram.specs.declared.server.ScramServerAuth.{ScramServerAuth as TheServer};
 ghost use Rattle.pgw_scram.specs.Answers.{IsScramAnswer};
 ghost use Rattle.pgw_login_sasl.specs.Scram.{binds, is_misnamed, offered_by, offered_under, first_reply, FirstReplies, FinalReplies, Exchanges};

@@ -1,5 +1,5 @@
 //! What judges a token.
-ghost use Rattle.std.specs.Prelude.{◌≡◌, ℕ, List, Result};
+ghost use Rattle.std.specs.Prelude.{ℕ, List, Result};
 ghost use Rattle.pgw_types.specs.declared.error.PgWireError.{PgWireError as Refusal};
 ghost use Rattle.pgw_login_sasl.specs.declared.validator.ValidatorModuleResult.{ValidatorModuleResult as Verdict};
 

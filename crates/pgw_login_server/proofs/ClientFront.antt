@@ -1,21 +1,19 @@
 -- What follows a message of a client, or a refusal, changes nothing.
-use Rattle.std.proofs.Common.{◌≡◌, ◌⊎◌, inl, inr, ℕ, ◌+◌, ◌-◌, ◌<◌, ◌≤◌, max, Bool, true, false, cond, ltb, eqb, List, [], ◌++◌, length, get_or, take, drop, slice_range, Option, Some, None, Result, Ok, Err, refl, sym, ap, subst, ◌∙◌, arith, length-append, length-drop}
+use Rattle.std.proofs.Common.{◌≡◌, inl, inr, ℕ, ◌+◌, ◌-◌, ◌<◌, ◌≤◌, max, Bool, true, false, cond, ltb, eqb, List, [], ◌++◌, length, get_or, take, drop, slice_range, Option, Some, None, Result, Ok, Err, refl, sym, ap, subst, ◌∙◌, arith, length-append, length-drop}
 use Rattle.std.specs.Int.{w32, from_be_bytes}
 use Rattle.std.proofs.lemmas.Bool.{ltb-true, ltb-false, le-ltb, lt-ltb}
-use Rattle.std.proofs.lemmas.List.{take-take, take_all, take-append-drop, take-append-le, drop-take, get_or-take, length-take, take_at}
+use Rattle.std.proofs.lemmas.List.{take_all, take-append-drop, take-append-le, length-take, take_at}
 use Rattle.std.proofs.Math.Seq.{take-append-add}
 use Rattle.pgw_types.specs.declared.error.PgWireError.{PgWireError}
-use Rattle.pgw_types.specs.declared.error.PgWireError.TheVariants.{InvalidMessageType, MessageTooLarge}
+use Rattle.pgw_types.specs.declared.error.PgWireError.TheVariants.{MessageTooLarge}
 use Rattle.pgw_types.specs.declared.context.ProtocolVersion.{ProtocolVersion}
 use Rattle.pgw_types.specs.declared.context.DecodeContext.{DecodeContext}
 use Rattle.pgw_wire.specs.declared.framing.Framing.{Framing}
-use Rattle.pgw_wire.specs.declared.framing.Framing.TheVariants.{Typed, Untyped, Opening, Code}
+use Rattle.pgw_wire.specs.declared.framing.Framing.TheVariants.{Typed, Untyped, Code}
 use Rattle.pgw_wire.specs.Reading.{◌>>=◌, IsReadRefusal}
 use Rattle.pgw_wire.specs.Framing.{code_in, sign_extended, stated_length, length_frame, frame, framed, wire_front, as_one_of, Decodes}
 use Rattle.pgw_wire.proofs.Laws.{bind_ok, chosen}
-use Rattle.pgw_wire.proofs.MessageLaws.{some_is, framed_found}
-use Rattle.pgw_wire.proofs.Stable.{Ends, Stable, bind_err, front_stable, stable_choice, stable_refusal}
-use Rattle.pgw_backend.proofs.BackendStable.{stable_as}
+use Rattle.pgw_wire.proofs.Stable.{Ends, Stable, bind_err}
 use Rattle.pgw_startup.specs.declared.startup.Startup.{Startup}
 use Rattle.pgw_startup.specs.Startup.{startup_of}
 use Rattle.pgw_startup.specs.Password.{family_of}
@@ -30,159 +28,15 @@ use Rattle.pgw_frontend.specs.declared.frontend.PgWireFrontendMessage.{PgWireFro
 use Rattle.pgw_frontend.specs.declared.frontend.PgWireFrontendMessage.TheVariants as frontend
 use Rattle.pgw_frontend.specs.Frontend.{negotiation_front, first_front, frontend_by, typed_front, frontend_front}
 use Rattle.pgw_frontend.specs.FrontendSpells.{SpellsFrontend}
+use Rattle.pgw_frontend.proofs.FrontendStable.{either, cut_same, opening_is, by_code_stable, asked_of, first_of, asked_or_first_stable, typed_stable as typed_front_stable}
 use Rattle.pgw_machine.specs.Course.{More, Bad, Whole, IsReading}
 use Rattle.pgw_login_server.specs.Front.{phase, asks_for_none, or_first_message, typed_within, client_front, server_front}
 
--- which way a test goes
-either : (b : Bool) → (b ≡ true) ⊎ (b ≡ false)
-either true = inl refl
-either false = inr refl
-
--- ---- what stands at the same place
-
-cut_same : (i j n : ℕ) (a b : List ℕ) → i + j ≤ n → take n b ≡ take n a → take j (drop i b) ≡ take j (drop i a)
-cut_same i j n a b le same =
-    let shorter : take (i + j) b ≡ take (i + j) a =
-    sym (take-take (i + j) n b le) ∙ ap (λ (x : List ℕ). take (i + j) x) same ∙ take-take (i + j) n a le in
-    sym (drop-take i j b) ∙ ap (λ (x : List ℕ). drop i x) shorter ∙ drop-take i j a
-
-code_same : (n : ℕ) (a b : List ℕ) → 8 ≤ n → take n b ≡ take n a → code_in b ≡ code_in a
-code_same n a b le same = ap (λ (f : List ℕ). from_be_bytes w32 f) (cut_same 4 4 n a b (omega (arith, le)) same)
-
-first_same : (n : ℕ) (a b : List ℕ) → 1 ≤ n → take n b ≡ take n a → get_or b 0 0 ≡ get_or a 0 0
-first_same n a b some same =
-    sym (get_or-take n b 0 0 (omega (arith, some))) ∙ ap (λ (x : List ℕ). get_or x 0 0) same
-    ∙ get_or-take n a 0 0 (omega (arith, some))
-
--- ---- messages without a type byte
-
--- a message that takes so many bytes
-stable_longer : {M : Type 0} (k least : ℕ) (p : List ℕ → Result (Option (M × List ℕ)) PgWireError) → Stable k p
-    → ((a : List ℕ) (m : M) (rest : List ℕ) → p a ≡ Ok (Some (m, rest)) → length rest + least ≤ length a)
-    → Stable least p
-stable_longer k least p h long = record {
-  whole = λ a m rest e.
-      let ends = h.whole a m rest e in
-      record {
-        len = ends.len;
-        some = omega (arith, long a m rest e, ap length ends.left, length-drop ends.len a, ends.within);
-        within = ends.within;
-        left = ends.left;
-        again = ends.again;
-      };
-  bad = h.bad;
-}
-
-untyped_at : (limit : ℕ) (a : List ℕ) (f : ℕ × ℕ) → length_frame 0 limit a ≡ Ok (Some f)
-    → (f.0 ≡ 4) × (4 ≤ f.1) × (f.1 ≤ length a)
-unfolding length_frame
-untyped_at limit a f e =
-    let len = stated_length 0 a in
-    elim (chosen (ltb (length a) 4) _ _ _ e) [
-      | inl h ↦ absurd cc
-      | inr g ↦ elim (chosen (ltb limit len) _ _ _ g.1) [
-        | inl h ↦ absurd cc
-        | inr k ↦ elim (chosen (ltb len 4) _ _ _ k.1) [
-          | inl h ↦ absurd cc
-          | inr m ↦ elim (chosen (ltb (length a) (0 + len)) _ _ _ m.1) [
-            | inl h ↦ absurd cc
-            | inr n ↦
-                let is : f ≡ (4, 0 + len) = sym (some_is (4, 0 + len) f n.1) in
-                let least : 4 ≤ len = ltb-false _ _ m.0 in
-                let whole : 0 + len ≤ length a = ltb-false _ _ n.0 in
-                let ends : f.1 ≡ 0 + len = ap (λ (p : ℕ × ℕ). p.1) is in
-                (ap (λ (p : ℕ × ℕ). p.0) is, omega (arith, ends, least), omega (arith, ends, whole))
-          ]
-        ]
-      ]
-    ]
-
-at_most : (n : ℕ) (a : List ℕ) → length (take n a) ≤ n
-at_most n a = omega (arith, length-take n a)
-
--- so many bytes where its body has so many
-untyped_long : {M : Type 0} (k limit : ℕ) (read : List ℕ → Result M PgWireError)
-    → ((body : List ℕ) (m : M) → read body ≡ Ok m → k ≤ length body)
-    → (a : List ℕ) (m : M) (rest : List ℕ) → wire_front Untyped limit read a ≡ Ok (Some (m, rest))
-    → length rest + (k + 4) ≤ length a
-unfolding wire_front frame
-untyped_long k limit read law a m rest e =
-    let h = bind_ok (length_frame 0 limit a) (framed read a) (Some (m, rest)) e in
-    let f = framed_found read a m rest h.0 h.2 in
-    let at = untyped_at limit a f.0 (h.1 ∙ ap (λ (o : Option (ℕ × ℕ)). Ok o) f.1) in
-    let body : k ≤ length (slice_range a f.0.0 f.0.1) = law (slice_range a f.0.0 f.0.1) m f.2 in
-    let short : length (slice_range a f.0.0 f.0.1) ≤ f.0.1 - f.0.0 = at_most (f.0.1 - f.0.0) (drop f.0.0 a) in
-    omega (arith, body, short, at.0, at.1, at.2, ap length f.3, length-drop f.0.1 a)
-
-startup_body_long : (ctx : DecodeContext) (body : List ℕ) (m : Startup) → startup_of ctx body ≡ Ok m
-    → 4 ≤ length body
-unfolding startup_of
-startup_body_long ctx body m e = elim (chosen (ltb (length body) 5) _ _ _ e) [
-  | inl h ↦ absurd cc
-  | inr h ↦ omega (arith, ltb-false _ _ h.0)
-]
-
-cancel_body_long : (ctx : DecodeContext) (body : List ℕ) (m : CancelRequest) → cancel_request_of ctx body ≡ Ok m
-    → 4 ≤ length body
-unfolding cancel_request_of
-cancel_body_long ctx body m e = elim (chosen (ltb (length body) 12) _ _ _ e) [
-  | inl h ↦ absurd cc
-  | inr h ↦ omega (arith, ltb-false _ _ h.0)
-]
-
-untyped_stable : {M : Type 0} (read : List ℕ → Result M PgWireError)
-    → ((body : List ℕ) (m : M) → read body ≡ Ok m → 4 ≤ length body) → Stable 8 (wire_front Untyped 10000 read)
-untyped_stable read law =
-    stable_longer 4 8 (wire_front Untyped 10000 read) (front_stable Untyped 10000 read tt)
-    (untyped_long 4 10000 read law)
-
--- with its code, a CancelRequest stands as a message without a type byte does
-opening_is : {M : Type 0} (code limit : ℕ) (read : List ℕ → Result M PgWireError) (b : List ℕ)
-    → ltb (length b) 8 ≡ false → eqb (code_in b) code ≡ true
-    → wire_front (Opening code) limit read b ≡ wire_front Untyped limit read b
-unfolding wire_front frame
-opening_is code limit read b long is = rw (long, is) refl
-
 -- ---- what may stand first, by its code
 
-ssl : ProtocolVersion → List ℕ → Result (Option (Message × List ℕ)) PgWireError
-ssl v b =
-    as_one_of (λ m. frontend.SslNegotiation (negotiation.PostgresSsl m))
-    (wire_front Code 10000 (ssl_request_of (phase true true v)) b)
-
-gss : ProtocolVersion → List ℕ → Result (Option (Message × List ℕ)) PgWireError
-gss v b =
-    as_one_of (λ m. frontend.SslNegotiation (negotiation.PostgresGss m))
-    (wire_front Code 10000 (gss_enc_request_of (phase true true v)) b)
-
-cancel : ProtocolVersion → List ℕ → Result (Option (Message × List ℕ)) PgWireError
-cancel v b =
-    as_one_of frontend.CancelRequest (wire_front Untyped 10000 (cancel_request_of (phase false true v)) b)
-
-startup : ProtocolVersion → List ℕ → Result (Option (Message × List ℕ)) PgWireError
-startup v b = as_one_of frontend.Startup (wire_front Untyped 10000 (startup_of (phase false true v)) b)
-
-by_code : ProtocolVersion → ℕ → List ℕ → Result (Option (Message × List ℕ)) PgWireError
-by_code v code b =
-    cond (eqb code 80877103) (ssl v b)
-    (cond (eqb code 80877104) (gss v b) (cond (eqb code 80877102) (cancel v b) (startup v b)))
-
-by_code_stable : (v : ProtocolVersion) (code : ℕ) → Stable 8 (by_code v code)
-unfolding by_code ssl gss cancel startup
-by_code_stable v code =
-    stable_choice 8 (eqb code 80877103) _ _
-    (stable_as (λ m. frontend.SslNegotiation (negotiation.PostgresSsl m)) 8
-    (wire_front Code 10000 (ssl_request_of (phase true true v)))
-    (front_stable Code 10000 (ssl_request_of (phase true true v)) tt))
-    (stable_choice 8 (eqb code 80877104) _ _
-    (stable_as (λ m. frontend.SslNegotiation (negotiation.PostgresGss m)) 8
-    (wire_front Code 10000 (gss_enc_request_of (phase true true v)))
-    (front_stable Code 10000 (gss_enc_request_of (phase true true v)) tt))
-    (stable_choice 8 (eqb code 80877102) _ _
-    (stable_as frontend.CancelRequest 8 (wire_front Untyped 10000 (cancel_request_of (phase false true v)))
-    (untyped_stable (cancel_request_of (phase false true v)) (cancel_body_long (phase false true v))))
-    (stable_as frontend.Startup 8 (wire_front Untyped 10000 (startup_of (phase false true v)))
-    (untyped_stable (startup_of (phase false true v)) (startup_body_long (phase false true v))))))
+-- what asks for encryption, or else a first message
+abbrev by_code : ProtocolVersion → ℕ → List ℕ → Result (Option (Message × List ℕ)) PgWireError
+by_code v code b = asked_of (phase true true v) code b (first_of (phase false true v) code b)
 
 -- what asks for something is what was found
 asked : {A : Type 0} (v : ProtocolVersion) (make : A → Message) (r : Result (Option (A × List ℕ)) PgWireError)
@@ -198,7 +52,7 @@ opening_none bound v b short = rw short refl
 
 opening_by_code : (bound : Option ℕ) (v : ProtocolVersion) (b : List ℕ) → ltb (length b) 8 ≡ false
     → client_front false bound v b ≡ by_code v (code_in b) b
-unfolding frontend_front negotiation_front first_front by_code ssl gss cancel startup
+unfolding frontend_front negotiation_front first_front
 opening_by_code bound v b long = elim (either (eqb (code_in b) 80877103)) [
   | inl s ↦ rw (long, s)
       (asked v (λ m. frontend.SslNegotiation (negotiation.PostgresSsl m))
@@ -217,56 +71,12 @@ opening_by_code bound v b long = elim (either (eqb (code_in b) 80877103)) [
 ]
 
 opening_stable : (bound : Option ℕ) (v : ProtocolVersion) → Stable 8 (client_front false bound v)
-opening_stable bound v = record {
-  whole = λ a m rest e. elim (either (ltb (length a) 8)) [
-    | inl short ↦ let n = opening_none bound v a short in absurd cc
-    | inr long ↦
-        let ends = (by_code_stable v (code_in a)).whole a m rest (sym (opening_by_code bound v a long) ∙ e) in
-        record {
-          len = ends.len;
-          some = ends.some;
-          within = ends.within;
-          left = ends.left;
-          again = λ b same le.
-              opening_by_code bound v b (le-ltb _ _ (omega (arith, ends.some, le)))
-              ∙ ap (λ (code : ℕ). by_code v code b) (code_same ends.len a b ends.some same)
-              ∙ ends.again b same le;
-        }
-  ];
-  bad = λ a more e is. elim (either (ltb (length a) 8)) [
-    | inl short ↦ let n = opening_none bound v a short in absurd cc
-    | inr long ↦
-        let some : 8 ≤ length a = ltb-false _ _ long in
-        opening_by_code bound v (a ++ more) (le-ltb _ _ (omega (arith, some, length-append a more)))
-        ∙ ap (λ (code : ℕ). by_code v code (a ++ more))
-        (code_same 8 a (a ++ more) (omega arith) (take-append-le 8 a more some))
-        ∙ (by_code_stable v (code_in a)).bad a more e (sym (opening_by_code bound v a long) ∙ is)
-  ];
-}
+opening_stable bound v =
+    by_code_stable (client_front false bound v) (by_code v)
+    (record { none = opening_none bound v; some = opening_by_code bound v })
+    (asked_or_first_stable (phase true true v) (phase false true v))
 
 -- ---- messages with a type byte
-
-one : {A : Type 0} (make : A → Message) (byte limit : ℕ) (read : List ℕ → Result A PgWireError)
-    → Stable 5 (λ bytes. as_one_of make (wire_front (Typed byte) limit read bytes))
-one make byte limit read =
-    stable_as make 5 (wire_front (Typed byte) limit read) (front_stable (Typed byte) limit read tt)
-
-by_stable : (byte : ℕ) (ctx : DecodeContext) → Stable 5 (frontend_by byte ctx)
-by_stable byte ctx =
-    stable_choice 5 (eqb byte 112) _ _ (one frontend.PasswordMessageFamily 112 10000 (family_of ctx))
-    (stable_choice 5 (eqb byte 81) _ _ (one frontend.Query 81 1073741822 (query_of ctx))
-    (stable_choice 5 (eqb byte 80) _ _ (one frontend.Parse 80 1073741822 (parse_of ctx))
-    (stable_choice 5 (eqb byte 66) _ _ (one frontend.Bind 66 1073741822 (bind_of ctx))
-    (stable_choice 5 (eqb byte 67) _ _ (one frontend.Close 67 10000 (close_of ctx))
-    (stable_choice 5 (eqb byte 68) _ _ (one frontend.Describe 68 10000 (describe_of ctx))
-    (stable_choice 5 (eqb byte 69) _ _ (one frontend.Execute 69 10000 (execute_of ctx))
-    (stable_choice 5 (eqb byte 72) _ _ (one frontend.Flush 72 10000 (flush_of ctx))
-    (stable_choice 5 (eqb byte 83) _ _ (one frontend.Sync 83 10000 (sync_of ctx))
-    (stable_choice 5 (eqb byte 88) _ _ (one frontend.Terminate 88 10000 (terminate_of ctx))
-    (stable_choice 5 (eqb byte 100) _ _ (one frontend.CopyData 100 1073741822 (copy_data_of ctx))
-    (stable_choice 5 (eqb byte 99) _ _ (one frontend.CopyDone 99 10000 (copy_done_of ctx))
-    (stable_choice 5 (eqb byte 102) _ _ (one frontend.CopyFail 102 10000 (copy_fail_of ctx))
-    (stable_refusal 5 (InvalidMessageType byte))))))))))))))
 
 typed_at : ProtocolVersion → List ℕ → Result (Option (Message × List ℕ)) PgWireError
 typed_at v b = frontend_front (phase false false v) b
@@ -281,34 +91,8 @@ unfolding typed_at frontend_front typed_front
 typed_by v b long = rw long refl
 
 typed_stable : (v : ProtocolVersion) → Stable 5 (typed_at v)
-typed_stable v = record {
-  whole = λ a m rest e. elim (either (ltb (length a) 2)) [
-    | inl short ↦ let n = typed_none v a short in absurd cc
-    | inr long ↦
-        let ends =
-        (by_stable (get_or a 0 0) (phase false false v)).whole a m rest (sym (typed_by v a long) ∙ e) in
-        record {
-          len = ends.len;
-          some = ends.some;
-          within = ends.within;
-          left = ends.left;
-          again = λ b same le.
-              typed_by v b (le-ltb _ _ (omega (arith, ends.some, le)))
-              ∙ ap (λ (byte : ℕ). frontend_by byte (phase false false v) b)
-              (first_same ends.len a b (omega (arith, ends.some)) same)
-              ∙ ends.again b same le;
-        }
-  ];
-  bad = λ a more e is. elim (either (ltb (length a) 2)) [
-    | inl short ↦ let n = typed_none v a short in absurd cc
-    | inr long ↦
-        let some : 2 ≤ length a = ltb-false _ _ long in
-        typed_by v (a ++ more) (le-ltb _ _ (omega (arith, some, length-append a more)))
-        ∙ ap (λ (byte : ℕ). frontend_by byte (phase false false v) (a ++ more))
-        (first_same 1 a (a ++ more) (omega arith) (take-append-le 1 a more (omega (arith, some))))
-        ∙ (by_stable (get_or a 0 0) (phase false false v)).bad a more e (sym (typed_by v a long) ∙ is)
-  ];
-}
+unfolding typed_at frontend_front
+typed_stable v = typed_front_stable (phase false false v)
 
 -- ---- a bound
 
@@ -667,7 +451,6 @@ untyped_waits read bytes is =
 -- up to the startup message
 opening_waits : (bound : Option ℕ) (v : ProtocolVersion) (b : List ℕ) → client_front false bound v b ≡ Ok None
     → length b ≤ 10000
-unfolding by_code ssl gss cancel startup
 opening_waits bound v b is = elim (either (ltb (length b) 8)) [
   | inl short ↦ let less : length b < 8 = ltb-true _ _ short in omega (arith, less)
   | inr long ↦

@@ -4,7 +4,6 @@ use Rattle.pgw_types.specs.declared.error.PgWireError.{PgWireError}
 use Rattle.pgw_wire.specs.Pairs.{Held}
 use Rattle.std.specs.Prelude.{ℤ, is_some}
 use Rattle.pgw_wire.specs.declared.secret_key.SecretKey.{SecretKey}
-use Rattle.pgw_scram.specs.declared.password.Password.{Password as Kept}
 use Rattle.pgw_startup.specs.declared.startup.Startup.{Startup}
 use Rattle.pgw_frontend.specs.declared.frontend.PgWireFrontendMessage.{PgWireFrontendMessage as Message}
 use Rattle.pgw_frontend.specs.declared.frontend.PgWireFrontendMessage.TheVariants as frontend
@@ -21,8 +20,8 @@ use Rattle.pgw_login.specs.Acts.{Standing, standing_in_login, Answer, Then, halt
 use Rattle.pgw_login.specs.Acts as acts
 use Rattle.pgw_login.specs.Opening.{BeginsLogin, Opens, Negotiates, Saves}
 use Rattle.pgw_login.specs.Finish.{Draws, Entered, Enrolls, EnrollsAt, AcceptsLogin, Introduces, introduction, login_ready, Readies, FinishesAuthentication, Finishes}
-use Rattle.pgw_login.specs.Cleartext.{CleartextOn, CleartextMeans, cleartext_request}
-use Rattle.pgw_login.specs.Md5.{Challenges, Md5On, Md5Means}
+use Rattle.pgw_login.specs.Password.{Opener, Checker, Challenges, PasswordOn, PasswordMeans}
+use Rattle.pgw_login.specs.declared.password.Challenge.{Challenge}
 use Rattle.pgw_login.specs.Noop.{NoopOn, NoopMeans}
 use Rattle.pgw_login.specs.Hearing.{heard}
 use Rattle.pgw_login.specs.declared.handler.Heard.{Heard}
@@ -234,34 +233,21 @@ opens_once s next before stage_after sent h on =
     never_then (Opens s) next (never_then (BeginsLogin s) _ (never_begins s)) before stage_after sent (Ok tt) h
     refl on
 
-module _ (A : Login → Result Kept PgWireError → Type 0) (P : LoginClient → Option Held → Type 0)
+module _ (opens : Opener) (checks : Checker) (P : LoginClient → Option Held → Type 0)
     (R : Option Known → ℤ → SecretKey → Option Known → Result (Option HandlePair) RegistryError → Type 0) where
-  cleartext_on : (m : Heard) (before stage_after : Standing) (sent : List Backend)
-      → IsReady before.client before.login → CleartextOn A P R m before stage_after sent (Ok tt)
+  password_on : (m : Heard) (before stage_after : Standing) (sent : List Backend)
+      → IsReady before.client before.login → PasswordOn opens checks P R m before stage_after sent (Ok tt)
       → IsReady stage_after.client stage_after.login
   unfolding Never
-  cleartext_on (of.Startup s) before stage_after sent is h =
-      absurd (never_then (Opens s) (Sends (cleartext_request ∷ []))
-      (never_then (BeginsLogin s) _ (never_begins s)) before stage_after sent (Ok tt) h refl is.1)
-  cleartext_on (of.Password m) before stage_after sent is h =
-      finishes_again LoginAwaits _ P R before stage_after sent keeps_awaits is h
-  cleartext_on of.Other before stage_after sent is h = passed before stage_after sent is h
-
-  pub cleartext_keeps : KeepsReady (CleartextMeans A P R)
-  cleartext_keeps m before stage_after sent is h = cleartext_on (heard m) before stage_after sent is h
-
-  md5_on : (m : Heard) (before stage_after : Standing) (sent : List Backend) → IsReady before.client before.login
-      → Md5On A P R m before stage_after sent (Ok tt) → IsReady stage_after.client stage_after.login
-  unfolding Never
-  md5_on (of.Startup s) before stage_after sent is h =
-      absurd (never_then (Opens s) (Challenges A) (never_then (BeginsLogin s) _ (never_begins s)) before
+  password_on (of.Startup s) before stage_after sent is h =
+      absurd (never_then (Opens s) (Challenges opens) (never_then (BeginsLogin s) _ (never_begins s)) before
       stage_after sent (Ok tt) h refl is.1)
-  md5_on (of.Password m) before stage_after sent is h =
+  password_on (of.Password m) before stage_after sent is h =
       finishes_again LoginAwaits _ P R before stage_after sent keeps_awaits is h
-  md5_on of.Other before stage_after sent is h = passed before stage_after sent is h
+  password_on of.Other before stage_after sent is h = passed before stage_after sent is h
 
-  pub md5_keeps : KeepsReady (Md5Means A P R)
-  md5_keeps m before stage_after sent is h = md5_on (heard m) before stage_after sent is h
+  pub password_keeps : KeepsReady (PasswordMeans opens checks P R)
+  password_keeps m before stage_after sent is h = password_on (heard m) before stage_after sent is h
 
 module _ (posts : Message → Standing → Standing → List Backend → Answer → Type 0)
     (R : Option Known → ℤ → SecretKey → Option Known → Result (Option HandlePair) RegistryError → Type 0) where

@@ -16,6 +16,8 @@ use Rattle.pgw_startup.specs.declared.startup.Startup.{Startup}
 use Rattle.pgw_frontend.specs.declared.frontend.PgWireFrontendMessage.{PgWireFrontendMessage as Message}
 use Rattle.pgw_frontend.specs.declared.frontend.PgWireFrontendMessage.TheVariants as frontend
 use Rattle.pgw_backend.specs.declared.backend.PgWireBackendMessage.{PgWireBackendMessage as Backend}
+use Rattle.pgw_backend.specs.declared.backend.PgWireBackendMessage.TheVariants as backend
+use Rattle.pgw_startup.specs.declared.authentication.Authentication.TheVariants as auth
 use Rattle.pgw_registry.specs.Passes.{Known}
 use Rattle.pgw_registry.specs.declared.error.RegistryError.{RegistryError}
 use Rattle.pgw_login.specs.Client.{LoginClient, with_metadata}
@@ -26,8 +28,10 @@ use Rattle.pgw_login.specs.Acts as acts
 use Rattle.pgw_login.specs.Opening.{Opens, saved}
 use Rattle.pgw_login.specs.Finish.{Finishes}
 use Rattle.pgw_login.specs.Hearing.{heard}
-use Rattle.pgw_login.specs.Cleartext.{cleartext_request, compared, ComparedTo, CheckedBy, ChecksPassword, CleartextOn, CleartextMeans, wrong_password}
-use Rattle.pgw_login.specs.Md5.{md5_request, kept_salt, md5_with_salt, AsksForSalt, with_kept, ChallengedBy, Challenges, MatchedTo, MatchedBy, Matched, Md5On, Md5Means}
+use Rattle.pgw_login.specs.Password.{Opener, Checker, with_kept, ChallengedBy, Challenges, wrong_password, compared, CheckedBy, ChecksPassword, PasswordOn, PasswordMeans}
+use Rattle.pgw_login.specs.Cleartext.{cleartext_challenge, OpensCleartext, ComparedTo, ChecksCleartext, CleartextMeans}
+use Rattle.pgw_login.specs.Md5.{md5_request, md5_with_salt, md5_challenge, OpensMd5, ChecksMd5, Md5Means}
+use Rattle.pgw_login.specs.declared.password.Challenge.{Challenge}
 use Rattle.pgw_login.specs.declared.handler.Heard.{Heard}
 use Rattle.pgw_login.specs.declared.handler.Heard.TheVariants as of
 use Rattle.pgw_login.specs.declared.client_info.PgWireConnectionState.TheVariants.{ReadyForQuery, AuthenticationInProgress}
@@ -189,6 +193,151 @@ module _ (Q : Standing → Answer → Type 0) (P : LoginClient → Option Held �
         | inr q ↦ inr (begun_awaits b.login on.0, subst (λ (s : Standing). Q s (Ok tt)) on.1 q)
       ]
 
+-- ---- by any method
+
+module _ (opens : Opener) where
+  -- what a challenge leaves
+  pub record Challenged (before after : Standing) (sent : List Backend) : Type 0 where
+    pub challenge : Challenge
+    pub opened : opens (login_seen before.client) (Ok challenge)
+    pub client : after.client ≡ before.client
+    pub login : after.login ≡ with_kept challenge.kept before.login
+    pub told : sent ≡ backend.Authentication challenge.request ∷ []
+
+  challenged_by : (challenge : Result Challenge PgWireError) (before after : Standing) (sent : List Backend)
+      (answer : Answer) → opens (login_seen before.client) challenge
+      → ChallengedBy challenge before after sent answer → answer ≡ Ok tt → Challenged before after sent
+  challenged_by (Err e) before after sent answer o h ok = absurd (not_both answer e h.2 ok)
+  challenged_by (Ok c) before after sent answer o h ok =
+      let b = then_both (Marks (with_kept c.kept)) (Sends (backend.Authentication c.request ∷ [])) before after
+      sent answer h ok in
+      record {
+        challenge = c;
+        opened = o;
+        client = ap (λ x. x.client) b.4.0 ∙ ap (λ x. x.client) b.3.0;
+        login = ap (λ x. x.login) b.4.0 ∙ ap (λ x. x.login) b.3.0;
+        told = b.5 ∙ ap (λ (l : List Backend). l ++ b.2) b.3.1 ∙ b.4.1;
+      }
+
+  challenged : (before after : Standing) (sent : List Backend) → Challenges opens before after sent (Ok tt)
+      → Challenged before after sent
+  challenged before after sent h = challenged_by h.0 before after sent (Ok tt) h.1 h.2 refl
+
+  -- what a client is asked by does not let it in
+  abbrev AsksFirst : Type 0
+  AsksFirst = (login : Login) (c : Challenge) → opens login (Ok c)
+      → list_any lets_in (backend.Authentication c.request ∷ []) ≡ false
+
+  quiet_challenged : AsksFirst → (challenge : Result Challenge PgWireError) (before after : Standing)
+      (sent : List Backend) (answer : Answer) → opens (login_seen before.client) challenge
+      → ChallengedBy challenge before after sent answer → list_any lets_in sent ≡ false
+  quiet_challenged asks (Err e) before after sent answer o h = quiet_refuses e before after sent answer h
+  quiet_challenged asks (Ok c) before after sent answer o h =
+      quiet_then (Marks (with_kept c.kept)) (Sends (backend.Authentication c.request ∷ []))
+      (quiet_marks (with_kept c.kept))
+      (quiet_sends (backend.Authentication c.request ∷ []) (asks (login_seen before.client) c o)) before after
+      sent answer h
+
+  quiet_challenges : AsksFirst → Quiet (Challenges opens)
+  quiet_challenges asks before after sent answer h =
+      quiet_challenged asks h.0 before after sent answer h.1 h.2
+
+still_started : (kept : Option (List ℕ)) (s : LoginState) → (with_kept kept s).started ≡ s.started
+still_started None s = refl
+still_started (Some text) s = refl
+
+-- a password that was taken was read
+module _ (checks : Checker) where
+  read_by : (m : PasswordMessageFamily) (read : Result Password PgWireError) (kept : Option (List ℕ))
+      (login : Login) (answer : Answer) → as_password m ≡ read → CheckedBy checks read kept login answer
+      → answer ≡ Ok tt → (text : List ℕ) × checks text kept login (Ok tt)
+      × IsPasswordMessage (frontend.PasswordMessageFamily m) text
+  read_by m (Err e) kept login answer is h ok = absurd (not_both answer e h ok)
+  read_by m (Ok p) kept login answer is h ok =
+      (p.password, subst (checks p.password kept login) ok h, (m, p, refl, is, refl))
+
+  read_password : (m : PasswordMessageFamily) (kept : Option (List ℕ)) (login : Login)
+      → ChecksPassword checks m kept login (Ok tt) → (text : List ℕ) × checks text kept login (Ok tt)
+      × IsPasswordMessage (frontend.PasswordMessageFamily m) text
+  read_password m kept login (inl h) = absurd (not_both (Ok tt) _ h refl)
+  read_password m kept login (inr h) = read_by m (as_password m) kept login (Ok tt) refl h refl
+
+-- what a method is to show, to let in by what it proves
+record Shows (opens : Opener) (checks : Checker) (Proves : List Taken → Taken → Type 0)
+    (Keeps : List Taken → Login → LoginState → Type 0) (first : LoginClient) : Type 0
+  where
+    pub asks : (login : Login) (c : Challenge) → opens login (Ok c)
+        → list_any lets_in (backend.Authentication c.request ∷ []) ≡ false
+    pub begun : (ts : List Taken) (t : Taken) (before after : Standing) (front sent : List Backend)
+        → t.said ≡ front ++ sent → Challenged opens before after sent
+        → Keeps (ts ++ t ∷ []) (login_seen after.client) after.login
+    pub proves : (ts : List Taken) (t : Taken) (text : List ℕ) (login : Login) (state : LoginState)
+        → IsPasswordMessage t.message text → IsNamed first ts login → Keeps ts login state
+        → checks text state.kept login (Ok tt) → Proves ts t
+    pub still : (ts : List Taken) (more : Taken) (old new : Login) (was now : LoginState) → old ≡ new
+        → now.kept ≡ was.kept → Keeps ts old was → Keeps (ts ++ more ∷ []) new now
+
+module _ (opens : Opener) (checks : Checker) (P : LoginClient → Option Held → Type 0)
+    (R : Option Known → ℤ → SecretKey → Option Known → Result (Option HandlePair) RegistryError → Type 0)
+    (Proves : List Taken → Taken → Type 0) (Keeps : List Taken → Login → LoginState → Type 0)
+    (first : LoginClient) (shows : Shows opens checks Proves Keeps first)
+  where
+    password_on : (ts : List Taken) (t : Taken) (m : Message) (h : Heard) (before after : Standing)
+        (sent : List Backend) (answer : Answer) → IsKnown Proves Keeps first ts before.client before.login
+        → t.message ≡ m → t.said ≡ sent → heard m ≡ h → PasswordOn opens checks P R h before after sent answer
+        → Goes Proves Keeps first ts t after sent answer
+    password_on ts t m (of.Startup s) before after sent answer k is said hears h = record {
+      says = λ says. quiet_says sent
+          (quiet_then (Opens s) (Challenges opens) (quiet_opens s) (quiet_challenges opens shows.asks) before
+          after sent answer h) says;
+      keeps = λ ok. let b = then_both (Opens s) (Challenges opens) before after sent answer h ok in
+          let c = challenged opens b.0 after b.2 b.4 in
+          known_begun Proves Keeps first ts t s before b.0 after k
+          (is ∙ heard_startup m s hears) (opened s before b.0 b.1 (Ok tt) b.3 refl)
+          (ap (λ (x : LoginClient). login_seen x) c.client)
+          (ap (λ (l : LoginState). l.started) c.login ∙ still_started c.challenge.kept b.0.login)
+          (ap (λ (x : LoginClient). x.state) c.client) (shows.begun ts t b.0 after b.1 b.2 (said ∙ b.5) c);
+    }
+    password_on ts t m (of.Password p) before after sent answer k is said hears h =
+        let Q : Standing → Answer → Type 0 =
+        λ s a. ChecksPassword checks p s.login.kept (login_seen s.client) a in
+        let same = roots_checked Q P R before after sent answer h in
+        elim (awaited_first Q P R before after sent answer h) [
+          | inl none ↦ record { says = λ says. quiet_says sent none.0 says; keeps = λ ok. absurd (none.1 ok) }
+          | inr on ↦
+              let read = read_password checks p before.login.kept (login_seen before.client) on.1 in
+              let proves : Proves ts t = shows.proves ts t read.0 (login_seen before.client) before.login
+              (subst (λ (x : Message). IsPasswordMessage x read.0) (sym (is ∙ heard_password m p hears)) read.2)
+              (k.named on.0) k.keeps read.1 in
+              record {
+                says = λ says. proves;
+                keeps = λ ok. known_proven Proves Keeps first ts t before after k on.0 same proves
+                    (shows.still ts t (login_seen before.client) (login_seen after.client) before.login
+                    after.login (sym (ap (λ r. r.who) same)) (ap (λ r. r.kept) same) k.keeps);
+              }
+        ]
+    password_on ts t m of.Other before after sent answer k is said hears h = record {
+      says = λ says. quiet_says sent (nothing_said sent h.1) says;
+      keeps = λ ok. known_passed Proves Keeps first ts t before after k h.0
+          (λ more. shows.still ts t (login_seen before.client) (login_seen before.client) before.login
+          before.login refl refl more);
+    }
+
+    password_means : (ts : List Taken) (t : Taken) (m : Message) (before after : Standing) (sent : List Backend)
+        (answer : Answer) → IsKnown Proves Keeps first ts before.client before.login
+        → t.stage.client ≡ before.client → t.stage.login ≡ before.login → t.message ≡ m → t.said ≡ sent
+        → PasswordMeans opens checks P R m before after sent answer
+        → Goes Proves Keeps first ts t after sent answer
+    password_means ts t m before after sent (Ok done) k c l is said h =
+        password_on ts t m (heard m) before after sent (Ok done) k is said refl h
+    password_means ts t m before after sent (Err e) k c l is said h =
+        let g = password_on ts t m (heard m) before h.0 sent (Err e) k is said refl h.1 in
+        record { says = g.says; keeps = λ ok. absurd (not_both (Err e) e refl ok) }
+
+pub never_ready : {A : Type 0} (client : LoginClient) → client.state ≢ ReadyForQuery
+    → client.state ≡ ReadyForQuery → A
+never_ready client not is = absurd (not is)
+
 -- nothing but a match is taken
 taken_where : (b : Bool) (e : PgWireError) (answer : Answer) → answer ≡ (if b then Ok tt else Err e)
     → answer ≡ Ok tt
@@ -203,109 +352,48 @@ matched_text text kept login answer is ok = (bytes_eq-Decides text kept).0
 
 -- ---- in clear text
 
-module _ (A : Login → Result Kept PgWireError → Type 0) where
-  -- the source gave a password, which is the message's
-  compared_to : (text : List ℕ) (login : Login) (given : Result Kept PgWireError) (answer : Answer)
-      → A login given
-      → ComparedTo text login given answer → answer ≡ Ok tt
-      → (kept : Kept) × A login (Ok kept) × (text ≡ kept.password)
-  compared_to text login (Err e) answer a h ok = absurd (not_both answer e h ok)
-  compared_to text login (Ok kept) answer a h ok = (kept, a, matched_text text kept.password login answer h ok)
-
-  checked_by : (m : PasswordMessageFamily) (read : Result Password PgWireError) (login : Login) (answer : Answer)
-      → as_password m ≡ read → CheckedBy A read login answer → answer ≡ Ok tt → (kept : Kept) × A login (Ok kept)
-      × IsPasswordMessage (frontend.PasswordMessageFamily m) kept.password
-  checked_by m (Err e) login answer is h ok = absurd (not_both answer e h ok)
-  checked_by m (Ok p) login answer is h ok =
-      let c = compared_to p.password login h.0 answer h.1 h.2 ok in
-      (c.0, c.1, (m, p, refl, is, c.2))
-
-  checked : (m : PasswordMessageFamily) (login : Login) (answer : Answer) → ChecksPassword A m login answer
-      → answer ≡ Ok tt
-      → (kept : Kept) × A login (Ok kept) × IsPasswordMessage (frontend.PasswordMessageFamily m) kept.password
-  checked m login answer (inl h) ok = absurd (not_both answer _ h ok)
-  checked m login answer (inr h) ok = checked_by m (as_password m) login answer refl h ok
-
-  proves_cleartext : (begin : Stage) (ts : List Taken) (t : Taken) (m : PasswordMessageFamily)
-      (client : LoginClient)
-      → t.message ≡ frontend.PasswordMessageFamily m → IsNamed begin.client ts (login_seen client)
-      → ChecksPassword A m (login_seen client) (Ok tt) → ProvesCleartext A begin ts t
-  proves_cleartext begin ts t m client is named h =
-      let c = checked m (login_seen client) (Ok tt) h refl in
-      record {
-        login = login_seen client;
-        kept = c.0;
-        named = named;
-        answered = c.1;
-        proof = subst
-            (λ (x : Message). IsPasswordMessage x c.0.password) (sym is) c.2;
-      }
-
 abbrev pub NothingMore : List Taken → Login → LoginState → Type 0
 NothingMore ts login state = Unit {0}
 
-module _ (A : Login → Result Kept PgWireError → Type 0) (P : LoginClient → Option Held → Type 0)
-    (R : Option Known → ℤ → SecretKey → Option Known → Result (Option HandlePair) RegistryError → Type 0)
-    (begin : Stage)
-  where
-    cleartext_on : (ts : List Taken) (t : Taken) (m : Message) (h : Heard) (before after : Standing)
-        (sent : List Backend) (answer : Answer) → IsKnown (ProvesCleartext A begin) NothingMore begin.client ts
-        before.client before.login → t.message ≡ m → heard m ≡ h → CleartextOn A P R h before after sent answer
-        → Goes (ProvesCleartext A begin) NothingMore begin.client ts t after sent answer
-    cleartext_on ts t m (of.Startup s) before after sent answer k is hears h = record {
-      says = λ says. quiet_says sent (quiet_then (Opens s) (Sends (cleartext_request ∷ [])) (quiet_opens s)
-          (quiet_sends (cleartext_request ∷ []) refl) before after sent answer h) says;
-      keeps = λ ok. let b = then_both (Opens s) (Sends (cleartext_request ∷ [])) before after sent answer h ok in
-          known_begun (ProvesCleartext A begin) NothingMore begin.client ts t s before b.0 after k
-          (is ∙ heard_startup m s hears) (opened s before b.0 b.1 (Ok tt) b.3 refl)
-          (ap (λ x. login_seen x.client) b.4.0) (ap (λ x. x.login.started) b.4.0) (ap (λ x. x.client.state) b.4.0)
-          tt;
-    }
-    cleartext_on ts t m (of.Password p) before after sent answer k is hears h =
-        let same =
-        roots_checked (λ s a. ChecksPassword A p (login_seen s.client) a) P R before after sent answer h in
-        elim (awaited_first (λ s a. ChecksPassword A p (login_seen s.client) a) P R before after sent answer h) [
-          | inl none ↦ record { says = λ says. quiet_says sent none.0 says; keeps = λ ok. absurd (none.1 ok) }
-          | inr on ↦
-              let proves : ProvesCleartext A begin ts t = proves_cleartext A begin ts t p before.client
-              (is ∙ heard_password m p hears) (k.named on.0) on.1 in
-              record {
-                says = λ says. proves;
-                keeps = λ ok. known_proven (ProvesCleartext A begin) NothingMore
-                    begin.client ts t before after k on.0 same proves tt;
-              }
-        ]
-    cleartext_on ts t m of.Other before after sent answer k is hears h = record {
-      says = λ says. quiet_says sent (nothing_said sent h.1) says;
-      keeps =
-          λ ok. known_passed (ProvesCleartext A begin) NothingMore begin.client ts t before after k h.0
-          (λ more. tt);
-    }
+cleartext_asks : (login : Login) (c : Challenge) → OpensCleartext login (Ok c)
+    → list_any lets_in (backend.Authentication c.request ∷ []) ≡ false
+cleartext_asks login c is =
+    let same : c ≡ cleartext_challenge = cc in
+    ap (λ (x : Challenge). list_any lets_in (backend.Authentication x.request ∷ [])) same
 
-    cleartext_means : (ts : List Taken) (t : Taken) (m : Message) (before after : Standing) (sent : List Backend)
-        (answer : Answer)
-        → IsKnown (ProvesCleartext A begin) NothingMore begin.client ts before.client before.login
-        → t.stage.client ≡ before.client → t.stage.login ≡ before.login → t.message ≡ m → t.said ≡ sent
-        → CleartextMeans A P R m before after sent answer
-        → Goes (ProvesCleartext A begin) NothingMore begin.client ts t after sent answer
-    cleartext_means ts t m before after sent (Ok done) k c l is said h =
-        cleartext_on ts t m (heard m) before after sent
-        (Ok done) k is refl h
-    cleartext_means ts t m before after sent (Err e) k c l is said h =
-        let g = cleartext_on ts t m (heard m) before h.0 sent (Err e) k is refl h.1 in
-        record { says = g.says; keeps = λ ok. absurd (not_both (Err e) e refl ok) }
+-- the source gave a password, which is the message's
+compared_to : (A : Login → Result Kept PgWireError → Type 0) (text : List ℕ) (login : Login)
+    (given : Result Kept PgWireError) (answer : Answer) → A login given → ComparedTo text login given answer
+    → answer ≡ Ok tt → (kept : Kept) × A login (Ok kept) × (text ≡ kept.password)
+compared_to A text login (Err e) answer a h ok = absurd (not_both answer e h ok)
+compared_to A text login (Ok kept) answer a h ok = (kept, a, matched_text text kept.password login answer h ok)
 
-pub never_ready : {A : Type 0} (client : LoginClient) → client.state ≢ ReadyForQuery
-    → client.state ≡ ReadyForQuery → A
-never_ready client not is = absurd (not is)
+cleartext_shows : (A : Login → Result Kept PgWireError → Type 0) (begin : Stage)
+    → Shows OpensCleartext (ChecksCleartext A) (ProvesCleartext A begin) NothingMore begin.client
+cleartext_shows A begin = record {
+  asks = cleartext_asks;
+  begun = λ ts t before after front sent said c. tt;
+  proves = λ ts t text login state sent named keeps h.
+      let c = compared_to A text login h.0 (Ok tt) h.1 h.2 refl in
+      record {
+        login = login;
+        kept = c.0;
+        named = named;
+        answered = c.1;
+        proof = subst (IsPasswordMessage t.message) c.2 sent;
+      };
+  still = λ ts more old new was now same kept keeps. tt;
+}
 
 pub cleartext_lets_in : (A : Login → Result Kept PgWireError → Type 0) (P : LoginClient → Option Held → Type 0)
     (R : Option Known → ℤ → SecretKey → Option Known → Result (Option HandlePair) RegistryError → Type 0)
     → LetsInBy (CleartextMeans A P R) (ProvesCleartext A)
 cleartext_lets_in A P R bound client login given course new way =
-    guarded (CleartextMeans A P R) (ProvesCleartext A (begins_within bound client login)) NothingMore client
-    (λ ts more who state keeps. tt) (cleartext_means A P R (begins_within bound client login)) bound login given
-    course (record {
+    let begin = begins_within bound client login in
+    guarded (CleartextMeans A P R) (ProvesCleartext A begin) NothingMore client
+    (λ ts more who state keeps. tt)
+    (password_means OpensCleartext (ChecksCleartext A) P R (ProvesCleartext A begin) NothingMore client
+    (cleartext_shows A begin)) bound login given course (record {
       fresh = λ off. refl;
       named = λ on. on_and_off login.started on new.1;
       ready = λ is. never_ready client new.0 is;
@@ -313,6 +401,9 @@ cleartext_lets_in A P R bound client login given course new way =
     }) way
 
 -- ---- under MD5
+
+abbrev md5_asked : List ℕ → List ℕ → Challenge
+md5_asked salt text = record { request = auth.MD5Password salt; kept = Some text }
 
 module _ (A : Login → Result Kept PgWireError → Type 0) where
   -- a text that is kept was answered by the source, with a salt that the client was told
@@ -347,205 +438,98 @@ module _ (A : Login → Result Kept PgWireError → Type 0) where
       (λ (l : Login). (k : Kept) × (k.password ≡ text) × IsChallenged A (ts ++ more ∷ []) l k) who
       (text_stays ts more old was keeps text (sym kept ∙ is))
 
-  -- ---- the challenge
-
-  record Salting (before after : Standing) (sent : List Backend) : Type 0 where
+  -- what a source gave that a client is asked by
+  record Gave (c : Challenge) (login : Login) : Type 0 where
     pub kept : Kept
     pub salt : List ℕ
-    pub answered : A (login_seen before.client) (Ok kept)
+    pub answered : A login (Ok kept)
     pub salted : kept.salt ≡ Some salt
-    pub client : after.client ≡ before.client
-    pub login : after.login ≡ with_kept kept.password before.login
-    pub told : Contains sent (md5_request salt)
+    pub asked : c ≡ md5_asked salt kept.password
 
-  quiet_challenged : (salted : Result (List ℕ × List ℕ) PgWireError) → Quiet (ChallengedBy salted)
-  quiet_challenged (Err e) = quiet_refuses e
-  quiet_challenged (Ok (salt, text)) = quiet_then (Marks (with_kept text)) (Sends (md5_request salt ∷ []))
-      (quiet_marks (with_kept text)) (quiet_sends (md5_request salt ∷ []) refl)
+  gave_with : (kept : Kept) (own : Option (List ℕ)) (c : Challenge) (login : Login) → kept.salt ≡ own
+      → Ok c ≡ md5_with_salt own kept.password → A login (Ok kept) → Gave c login
+  gave_with kept None c login is h a = absurd cc
+  gave_with kept (Some own) c login is h a =
+      let same : c ≡ md5_asked own kept.password = cc in
+      record { kept = kept; salt = own; answered = a; salted = is; asked = same }
 
-  quiet_challenges : Quiet (Challenges A)
-  quiet_challenges before after sent answer h = quiet_challenged h.0 before after sent answer h.2
+  gave_by : (given : Result Kept PgWireError) (c : Challenge) (login : Login) → A login given
+      → Ok c ≡ md5_challenge given → Gave c login
+  gave_by (Err e) c login a h = absurd cc
+  gave_by (Ok kept) c login a h = gave_with kept kept.salt c login refl h a
 
-  -- what a source gave that a salt and a text are of
-  data Gave (salt text : List ℕ) (login : Login) : Type 0 where
-    gave : (kept : Kept) → A login (Ok kept) → kept.salt ≡ Some salt → kept.password ≡ text → Gave salt text login
+  gave : (c : Challenge) (login : Login) → OpensMd5 A login (Ok c) → Gave c login
+  gave c login (inl h) = absurd cc
+  gave c login (inr h) = gave_by h.0 c login h.1 h.2
 
-  salt_with : (kept : Kept) (own : Option (List ℕ)) (salt text : List ℕ) (login : Login) → kept.salt ≡ own
-      → Ok (salt, text) ≡ md5_with_salt own kept.password → A login (Ok kept) → Gave salt text login
-  salt_with kept None salt text login is h a = absurd cc
-  salt_with kept (Some own) salt text login is h a =
-      let both : ◌≡◌ {A = List ℕ × List ℕ} (salt, text) (own, kept.password) = cc in
-      gave kept a (is ∙ ap (λ (p : List ℕ × List ℕ). Some p.0) (sym both))
-      (sym (ap (λ (p : List ℕ × List ℕ). p.1) both))
-
-  salt_given : (given : Result Kept PgWireError) (salt text : List ℕ) (login : Login) → A login given
-      → Ok (salt, text) ≡ kept_salt given → Gave salt text login
-  salt_given (Err e) salt text login a h = absurd cc
-  salt_given (Ok kept) salt text login a h = salt_with kept kept.salt salt text login refl h a
-
-  salted_by : (salt text : List ℕ) (login : Login) → AsksForSalt A login (Ok (salt, text)) → Gave salt text login
-  salted_by salt text login (inl h) = absurd cc
-  salted_by salt text login (inr h) = salt_given h.0 salt text login h.1 h.2
-
-  challenged_by : (salted : Result (List ℕ × List ℕ) PgWireError) (before after : Standing) (sent : List Backend)
-      (answer : Answer) → AsksForSalt A (login_seen before.client) salted
-      → ChallengedBy salted before after sent answer
-      → answer ≡ Ok tt → Salting before after sent
-  challenged_by (Err e) before after sent answer s h ok = absurd (not_both answer e h.2 ok)
-  challenged_by (Ok (salt, text)) before after sent answer s h ok =
-      let b = then_both (Marks (with_kept text)) (Sends (md5_request salt ∷ [])) before after sent answer h ok in
-      let told : Contains sent (md5_request salt) = subst (λ (l : List Backend). Contains l (md5_request salt))
-      (sym b.5) (Contains-append_right b.1 b.2 (md5_request salt)
-      (subst (λ (l : List Backend). Contains l (md5_request salt)) (sym b.4.1)
-      (Contains-push [] (md5_request salt)))) in
-      elim (salted_by salt text (login_seen before.client) s) [
-        | gave kept a has is ↦ record {
-          kept = kept;
-          salt = salt;
-          answered = a;
-          salted = has;
-          client = ap (λ x. x.client) b.4.0 ∙ ap (λ x. x.client) b.3.0;
-          login = ap (λ x. x.login) b.4.0 ∙ ap (λ x. x.login) b.3.0
-              ∙ ap (λ (l : List ℕ). with_kept l before.login) (sym is);
-          told = told;
-        }
-      ]
+  md5_asks : (login : Login) (c : Challenge) → OpensMd5 A login (Ok c)
+      → list_any lets_in (backend.Authentication c.request ∷ []) ≡ false
+  md5_asks login c o =
+      ap (λ (x : Challenge). list_any lets_in (backend.Authentication x.request ∷ [])) (gave c login o).asked
 
   keeps_challenged : (ts : List Taken) (t : Taken) (before after : Standing) (front sent : List Backend)
-      → t.said ≡ front ++ sent → Salting before after sent
+      → t.said ≡ front ++ sent → Challenged (OpensMd5 A) before after sent
       → KeepsText (ts ++ t ∷ []) (login_seen after.client) after.login
   unfolding KeepsText
   keeps_challenged ts t before after front sent said s text is =
-      let mine : Some s.kept.password ≡ after.login.kept = sym (ap (λ (l : LoginState). l.kept) s.login) in
-      let both : ◌≡◌ {A = Option (List ℕ)} (Some s.kept.password) (Some text) = mine ∙ is in
-      let same : s.kept.password ≡ text = cc in (
-        s.kept,
+      let g = gave s.challenge (login_seen before.client) s.opened in
+      let mine : after.login.kept ≡ Some g.kept.password = ap (λ (l : LoginState). l.kept) s.login
+      ∙ ap (λ (x : Challenge). (with_kept x.kept before.login).kept) g.asked in
+      let both : ◌≡◌ {A = Option (List ℕ)} (Some g.kept.password) (Some text) = sym mine ∙ is in
+      let same : g.kept.password ≡ text = cc in
+      let asked : sent ≡ md5_request g.salt ∷ [] = s.told
+      ∙ ap (λ (x : Challenge). backend.Authentication x.request ∷ []) g.asked in (
+        g.kept,
         same,
         record {
-          salt = s.salt;
+          salt = g.salt;
           challenge = t;
           came = Contains-push ts t;
-          told = subst (λ (l : List Backend). Contains l (md5_request s.salt)) (sym said)
-              (Contains-append_right front sent (md5_request s.salt) s.told);
-          answered = subst (λ (c : LoginClient). A (login_seen c) (Ok s.kept)) (sym s.client) s.answered;
-          salted = s.salted;
+          told = subst (λ (l : List Backend). Contains l (md5_request g.salt))
+              (sym (said ∙ ap (λ (l : List Backend). front ++ l) asked)) (Contains-push front (md5_request g.salt));
+          answered = subst (λ (c : LoginClient). A (login_seen c) (Ok g.kept)) (sym s.client) g.answered;
+          salted = g.salted;
         },
       )
 
-  -- ---- the password
-
   matched_to : (text : List ℕ) (kept : Option (List ℕ)) (login : Login) (answer : Answer)
-      → MatchedTo text kept login answer → answer ≡ Ok tt → kept ≡ Some text
+      → ChecksMd5 text kept login answer → answer ≡ Ok tt → kept ≡ Some text
   matched_to text None login answer h ok = absurd (not_both answer _ h ok)
   matched_to text (Some kept) login answer h ok = ap (λ (l : List ℕ). Some l)
       (sym (matched_text text kept login answer h ok))
 
-  matched_by : (m : PasswordMessageFamily) (read : Result Password PgWireError) (kept : Option (List ℕ))
-      (login : Login) (answer : Answer) → as_password m ≡ read → MatchedBy read kept login answer → answer ≡ Ok tt
-      → (text : List ℕ) × (kept ≡ Some text) × IsPasswordMessage (frontend.PasswordMessageFamily m) text
-  matched_by m (Err e) kept login answer is h ok = absurd (not_both answer e h ok)
-  matched_by m (Ok p) kept login answer is h ok = (
-    p.password,
-    matched_to p.password kept login answer h ok,
-    (
-      m,
-      p,
-      refl,
-      is,
-      refl,
-    ),
-  )
-
-  matched : (m : PasswordMessageFamily) (kept : Option (List ℕ)) (login : Login) (answer : Answer)
-      → Matched m kept login answer → answer ≡ Ok tt → (text : List ℕ) × (kept ≡ Some text)
-      × IsPasswordMessage (frontend.PasswordMessageFamily m) text
-  matched m kept login answer (inl h) ok = absurd (not_both answer _ h ok)
-  matched m kept login answer (inr h) ok = matched_by m (as_password m) kept login answer refl h ok
-
-  proves_md5 : (begin : Stage) (ts : List Taken) (t : Taken) (m : PasswordMessageFamily) (client : LoginClient)
-      (state : LoginState) → t.message ≡ frontend.PasswordMessageFamily m
-      → IsNamed begin.client ts (login_seen client)
-      → KeepsText ts (login_seen client) state → Matched m state.kept (login_seen client) (Ok tt)
-      → ProvesMd5 A begin ts t
+  proves_md5 : (begin : Stage) (ts : List Taken) (t : Taken) (text : List ℕ) (login : Login) (state : LoginState)
+      → IsPasswordMessage t.message text → IsNamed begin.client ts login → KeepsText ts login state
+      → ChecksMd5 text state.kept login (Ok tt) → ProvesMd5 A begin ts t
   unfolding KeepsText
-  proves_md5 begin ts t m client state is named keeps h =
-      let c = matched m state.kept (login_seen client) (Ok tt) h refl in
-      let k = keeps c.0 c.1 in
+  proves_md5 begin ts t text login state sent named keeps h =
+      let k = keeps text (matched_to text state.kept login (Ok tt) h refl) in
       record {
-        login = login_seen client;
+        login = login;
         kept = k.0;
         named = named;
         challenged = k.2;
-        proof = subst
-            (IsPasswordMessage t.message) (sym k.1)
-            (subst (λ (x : Message). IsPasswordMessage x c.0) (sym is) c.2);
+        proof = subst (IsPasswordMessage t.message) (sym k.1) sent;
       }
 
-module _ (A : Login → Result Kept PgWireError → Type 0) (P : LoginClient → Option Held → Type 0)
-    (R : Option Known → ℤ → SecretKey → Option Known → Result (Option HandlePair) RegistryError → Type 0)
-    (begin : Stage)
-  where
-    md5_on : (ts : List Taken) (t : Taken) (m : Message) (h : Heard) (before after : Standing)
-        (sent : List Backend)
-        (answer : Answer) → IsKnown (ProvesMd5 A begin) (KeepsText A) begin.client ts before.client before.login
-        → t.message ≡ m → t.said ≡ sent → heard m ≡ h → Md5On A P R h before after sent answer
-        → Goes (ProvesMd5 A begin) (KeepsText A) begin.client ts t after sent answer
-    md5_on ts t m (of.Startup s) before after sent answer k is said hears h = record {
-      says = λ says. quiet_says sent
-          (quiet_then (Opens s) (Challenges A) (quiet_opens s) (quiet_challenges A) before
-          after sent answer h) says;
-      keeps = λ ok. let b = then_both (Opens s) (Challenges A) before after sent answer h ok in
-          let g = challenged_by A b.4.0 b.0 after b.2 (Ok tt) b.4.1 b.4.2 refl in
-          known_begun (ProvesMd5 A begin) (KeepsText A) begin.client ts t s before b.0 after k
-          (is ∙ heard_startup m s hears) (opened s before b.0 b.1 (Ok tt) b.3 refl)
-          (ap (λ (c : LoginClient). login_seen c) g.client) (ap (λ (l : LoginState). l.started) g.login)
-          (ap (λ (c : LoginClient). c.state) g.client) (keeps_challenged A ts t b.0 after b.1 b.2 (said ∙ b.5) g);
-    }
-    md5_on ts t m (of.Password p) before after sent answer k is said hears h =
-        let same =
-        roots_checked (λ s a. Matched p s.login.kept (login_seen s.client) a) P R before after sent answer h
-        in
-        elim (awaited_first (λ s a. Matched p s.login.kept (login_seen s.client) a) P R before after sent answer
-        h) [
-          | inl none ↦ record { says = λ says. quiet_says sent none.0 says; keeps = λ ok. absurd (none.1 ok) }
-          | inr on ↦
-              let proves : ProvesMd5 A begin ts t = proves_md5 A begin ts t p before.client before.login
-              (is ∙ heard_password m p hears) (k.named on.0) k.keeps on.1 in
-              record {
-                says = λ says. proves;
-                keeps = λ ok. known_proven (ProvesMd5 A begin) (KeepsText A) begin.client
-                    ts t before after k on.0 same proves
-                    (text_still A ts t (login_seen before.client) (login_seen after.client) before.login
-                    after.login
-                    (sym (ap (λ r. r.who) same)) (ap (λ r. r.kept) same) k.keeps);
-              }
-        ]
-    md5_on ts t m of.Other before after sent answer k is said hears h = record {
-      says = λ says. quiet_says sent (nothing_said sent h.1) says;
-      keeps = λ ok. known_passed (ProvesMd5 A begin) (KeepsText A) begin.client ts t before after k h.0
-          (λ more. text_stays A ts t (login_seen before.client) before.login more);
-    }
-
-    md5_means : (ts : List Taken) (t : Taken) (m : Message) (before after : Standing) (sent : List Backend)
-        (answer : Answer) → IsKnown (ProvesMd5 A begin) (KeepsText A) begin.client ts before.client before.login
-        → t.stage.client ≡ before.client → t.stage.login ≡ before.login → t.message ≡ m → t.said ≡ sent
-        → Md5Means A P R m before after sent answer
-        → Goes (ProvesMd5 A begin) (KeepsText A) begin.client ts t after
-        sent answer
-    md5_means ts t m before after sent (Ok done) k c l is said h =
-        md5_on ts t m (heard m) before after sent (Ok done) k
-        is said refl h
-    md5_means ts t m before after sent (Err e) k c l is said h =
-        let g = md5_on ts t m (heard m) before h.0 sent (Err e) k is said refl h.1 in
-        record { says = g.says; keeps = λ ok. absurd (not_both (Err e) e refl ok) }
+  md5_shows : (begin : Stage)
+      → Shows (OpensMd5 A) ChecksMd5 (ProvesMd5 A begin) KeepsText begin.client
+  md5_shows begin = record {
+    asks = md5_asks;
+    begun = keeps_challenged;
+    proves = proves_md5 begin;
+    still = text_still;
+  }
 
 pub md5_lets_in : (A : Login → Result Kept PgWireError → Type 0) (P : LoginClient → Option Held → Type 0)
     (R : Option Known → ℤ → SecretKey → Option Known → Result (Option HandlePair) RegistryError → Type 0)
     → LetsInBy (Md5Means A P R) (ProvesMd5 A)
 unfolding KeepsText
 md5_lets_in A P R bound client login given course new way =
-    guarded (Md5Means A P R) (ProvesMd5 A (begins_within bound client login)) (KeepsText A) client (text_stays A)
-    (md5_means A P R (begins_within bound client login)) bound login given course (record {
+    let begin = begins_within bound client login in
+    guarded (Md5Means A P R) (ProvesMd5 A begin) (KeepsText A) client (text_stays A)
+    (password_means (OpensMd5 A) ChecksMd5 P R (ProvesMd5 A begin) (KeepsText A) client (md5_shows A begin))
+    bound login given course (record {
       fresh = λ off. refl;
       named = λ on. on_and_off login.started on new.1;
       ready = λ is. never_ready client new.0 is;

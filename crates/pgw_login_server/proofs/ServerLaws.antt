@@ -38,24 +38,24 @@ memory_or e = inr (λ is. cc)
 
 -- ---- what an outbox took
 
-known : {A E : Type 0} (r : Result A E) → ((x : A) × (r ≡ Ok x)) ⊎ ((e : E) × (r ≡ Err e))
+pub known : {A E : Type 0} (r : Result A E) → ((x : A) × (r ≡ Ok x)) ⊎ ((e : E) × (r ≡ Err e))
 known (Ok x) = inl (x, refl)
 known (Err e) = inr (e, refl)
 
-none_after : (e : PgWireError) (ms : List Backend) → fold and_encoding (Err e) ms ≡ Err e
+pub none_after : (e : PgWireError) (ms : List Backend) → fold and_encoding (Err e) ms ≡ Err e
 none_after e [] = refl
 none_after e (m ∷ ms) = none_after e ms
 
-one_more : (bytes more : List ℕ) (m : Backend) → backend_encoding m ≡ Ok more
+pub one_more : (bytes more : List ℕ) (m : Backend) → backend_encoding m ≡ Ok more
     → and_encoding (Ok bytes) m ≡ Ok (bytes ++ more)
 one_more bytes more m is = ap (λ (r : Result (List ℕ) PgWireError). r >>= (λ more. Ok (bytes ++ more))) is
 
-no_more : (bytes : List ℕ) (e : PgWireError) (m : Backend) → backend_encoding m ≡ Err e
+pub no_more : (bytes : List ℕ) (e : PgWireError) (m : Backend) → backend_encoding m ≡ Err e
     → and_encoding (Ok bytes) m ≡ Err e
 no_more bytes e m is = ap (λ (r : Result (List ℕ) PgWireError). r >>= (λ more. Ok (bytes ++ more))) is
 
 -- with bytes before them, the encodings are the same
-told_from : (old acc new : List ℕ) (ms : List Backend) → fold and_encoding (Ok (old ++ acc)) ms ≡ Ok new
+pub told_from : (old acc new : List ℕ) (ms : List Backend) → fold and_encoding (Ok (old ++ acc)) ms ≡ Ok new
     → (put : List ℕ) × (fold and_encoding (Ok acc) ms ≡ Ok put) × (new ≡ old ++ put)
 told_from old acc new [] e = (acc, refl, sym (ok_is (old ++ acc) new e))
 told_from old acc new (m ∷ ms) e = elim (known (backend_encoding m)) [

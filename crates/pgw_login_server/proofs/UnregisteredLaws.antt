@@ -1,10 +1,9 @@
 -- A login that is registered nowhere stays so.
-use Rattle.std.proofs.Common.{◌≡◌, inl, inr, ℕ, Bool, true, false, List, [], ◌∷◌, drop, Option, None, Result, Ok, Err, refl, sym, ap, subst, ◌∙◌}
+use Rattle.std.proofs.Common.{◌≡◌, inl, inr, ℕ, Bool, true, false, List, [], ◌∷◌, drop, Option, None, Some, Result, Ok, Err, refl, sym, ap, subst, ◌∙◌}
 use Rattle.std.specs.Prelude.{is_some}
 use Rattle.pgw_types.specs.declared.error.PgWireError.{PgWireError}
 use Rattle.pgw_types.specs.declared.context.ProtocolVersion.{ProtocolVersion}
 use Rattle.pgw_wire.specs.Pairs.{Held}
-use Rattle.pgw_scram.specs.declared.password.Password.{Password as Kept}
 use Rattle.pgw_startup.specs.declared.startup.Startup.{Startup}
 use Rattle.pgw_frontend.specs.declared.frontend.PgWireFrontendMessage.{PgWireFrontendMessage as Message}
 use Rattle.pgw_frontend.specs.declared.frontend.PgWireFrontendMessage.TheVariants as frontend
@@ -21,8 +20,8 @@ use Rattle.pgw_login.specs.Acts.{Standing, standing_in_login, Answer, Act, Then,
 use Rattle.pgw_login.specs.Finish.{Draws, Enrolls, EnrollsAt, Entered, AcceptsLogin, Introduces, Readies, login_ready, FinishesAuthentication, Finishes}
 use Rattle.pgw_login.specs.Hearing.{heard}
 use Rattle.pgw_login.specs.Opening.{Opens, BeginsLogin, Negotiates, LoginSettlesVersion, negotiation, Saves, offered_messages}
-use Rattle.pgw_login.specs.Cleartext.{CleartextOn, CleartextMeans}
-use Rattle.pgw_login.specs.Md5.{ChallengedBy, Challenges, Md5On, Md5Means}
+use Rattle.pgw_login.specs.Password.{Opener, Checker, with_kept, ChallengedBy, Challenges, PasswordOn, PasswordMeans}
+use Rattle.pgw_login.specs.declared.password.Challenge.{Challenge}
 use Rattle.pgw_login.specs.Noop.{IntroducesBy, NoopOn, NoopMeans}
 use Rattle.pgw_login.specs.Provider.{default_provider}
 use Rattle.pgw_login.specs.declared.handler.Heard.{Heard}
@@ -161,25 +160,23 @@ unties_or_fails act keeps before after sent (Ok done) h is = keeps before after 
 unties_or_fails act keeps before after sent (Err e) h is =
     ap (λ (x : Standing). tied x.login) h.2 ∙ keeps before h.0 sent (Err e) h.1 is
 
-module _ (A : Login → Result Kept PgWireError → Type 0) (P : LoginClient → Option Held → Type 0) where
-  cleartext_on : (m : Heard) → Unties (CleartextOn A P Nowhere m)
-  cleartext_on (of.Startup s) = unties_then (Opens s) (Sends _) (unties_opens s) (unties_sends _)
-  cleartext_on (of.Password m) =
+unties_kept : (kept : Option (List ℕ)) (s : LoginState) → tied (with_kept kept s) ≡ tied s
+unties_kept None s = refl
+unties_kept (Some text) s = refl
+
+unties_challenged : (challenge : Result Challenge PgWireError) → Unties (ChallengedBy challenge)
+unties_challenged (Err e) = unties_refuses e
+unties_challenged (Ok c) = unties_then (Marks (with_kept c.kept)) (Sends _)
+    (unties_marks (with_kept c.kept) (unties_kept c.kept)) (unties_sends _)
+
+module _ (opens : Opener) (checks : Checker) (P : LoginClient → Option Held → Type 0) where
+  password_on : (m : Heard) → Unties (PasswordOn opens checks P Nowhere m)
+  password_on (of.Startup s) = unties_then (Opens s) (Challenges opens) (unties_opens s)
+      (λ before after sent answer h is. unties_challenged h.0 before after sent answer h.2 is)
+  password_on (of.Password m) =
       unties_then LoginAwaits _ unties_awaits (unties_then (AnswersLogin _) (Finishes P Nowhere) (unties_tells _)
       (unties_finishes P))
-  cleartext_on of.Other = unties_passes
-
-  challenged : (salted : Result (List ℕ × List ℕ) PgWireError) → Unties (ChallengedBy salted)
-  challenged (Err e) = unties_refuses e
-  challenged (Ok (salt, text)) = unties_then (Marks _) (Sends _) (unties_marks _ (λ s. refl)) (unties_sends _)
-
-  md5_on : (m : Heard) → Unties (Md5On A P Nowhere m)
-  md5_on (of.Startup s) = unties_then (Opens s) (Challenges A) (unties_opens s)
-      (λ before after sent answer h is. challenged h.0 before after sent answer h.2 is)
-  md5_on (of.Password m) =
-      unties_then LoginAwaits _ unties_awaits (unties_then (AnswersLogin _) (Finishes P Nowhere) (unties_tells _)
-      (unties_finishes P))
-  md5_on of.Other = unties_passes
+  password_on of.Other = unties_passes
 
 noop_on : (m : Heard) → Unties (NoopOn (λ m. LoginStays) Nowhere m)
 noop_on (of.Startup s) =
@@ -243,14 +240,10 @@ module _ (means : Acts) (keeps : (m : Message) → Unties (means m)) where
       let t = leads_tied begin given course is way in
       (ap (λ (x : Tied). x.registered) t ∙ is, ap (λ (x : Tied). x.pass) t)
 
-pub cleartext_unties : (A : Login → Result Kept PgWireError → Type 0) (P : LoginClient → Option Held → Type 0)
-    → StaysUnregistered (CleartextMeans A P Nowhere)
-cleartext_unties A P = stays_unregistered (CleartextMeans A P Nowhere)
-    (λ m. unties_or_fails _ (cleartext_on A P (heard m)))
-
-pub md5_unties : (A : Login → Result Kept PgWireError → Type 0) (P : LoginClient → Option Held → Type 0)
-    → StaysUnregistered (Md5Means A P Nowhere)
-md5_unties A P = stays_unregistered (Md5Means A P Nowhere) (λ m. unties_or_fails _ (md5_on A P (heard m)))
+pub password_unties : (opens : Opener) (checks : Checker) (P : LoginClient → Option Held → Type 0)
+    → StaysUnregistered (PasswordMeans opens checks P Nowhere)
+password_unties opens checks P = stays_unregistered (PasswordMeans opens checks P Nowhere)
+    (λ m. unties_or_fails _ (password_on opens checks P (heard m)))
 
 pub noop_unties : StaysUnregistered (NoopMeans (λ m. LoginStays) Nowhere)
 noop_unties =

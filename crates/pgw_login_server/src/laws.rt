@@ -11,6 +11,7 @@ ghost use Rattle.pgw_login.specs.Acts.{LoginStays};
 ghost use Rattle.pgw_login.specs.Cleartext.{CleartextMeans};
 ghost use Rattle.pgw_login.specs.Md5.{Md5Means};
 ghost use Rattle.pgw_login.specs.Noop.{NoopMeans};
+ghost use Rattle.pgw_login.specs.Password.{PasswordMeans};
 ghost use Rattle.pgw_login_server.specs.Bound.{IsBounded, header_front};
 ghost use Rattle.pgw_login_server.specs.Entry.{LetsInBy, ProvesCleartext, ProvesMd5};
 ghost use Rattle.pgw_login_server.specs.Lasting.{IsReady, KeepsReady, StaysReady};
@@ -21,6 +22,7 @@ ghost use Rattle.pgw_login_server.specs.Unregistered.{Nowhere, StaysUnregistered
 ghost use Rattle.pgw_wire.specs.declared.limits.TheConstants.{SMALL_LIMIT};
 
 use pgw_login::handler::StartupHandler;
+use pgw_login::password::PasswordMethod;
 use pgw_login::provider::ServerParameterProvider;
 use pgw_login::registers::Registers;
 use pgw_login::source::AuthSource;
@@ -55,13 +57,11 @@ pub fn a_finished_login_stays<H: StartupHandler>()
         Leads (serving (H.means handler)) begin bytes course → StaysReady course }
 {}
 
-/// The handlers for a password, and the one for none, keep it so.
-pub fn handlers_keep_a_finished_login<A: AuthSource, P: ServerParameterProvider, M: Registers>()
-    ensures cleartext { (source : A) (provider : P) (registry : M) →
-        KeepsReady (CleartextMeans (A.answers source) (P.provides provider)
+/// The handler for a password keeps it so, by whatever method, and the one for none.
+pub fn handlers_keep_a_finished_login<V: PasswordMethod, P: ServerParameterProvider, M: Registers>()
+    ensures password { (method : V) (provider : P) (registry : M) →
+        KeepsReady (PasswordMeans (V.opens method) (V.checks method) (P.provides provider)
         (M.registers registry)) }
-    ensures md5 { (source : A) (provider : P) (registry : M) →
-        KeepsReady (Md5Means (A.answers source) (P.provides provider) (M.registers registry)) }
     ensures noop { (registry : M) → KeepsReady
         (NoopMeans (λ m. LoginStays) (M.registers registry)) }
 {}
@@ -107,10 +107,9 @@ pub fn a_bound_holds_until_the_login()
 
 /// Where a handler registers nothing, a login that is registered nowhere stays so, also at an end, and its pass is the one
 /// that it was made with: behind `finish` there is no handle and no guard, and the pass can be let go or used again.
-pub fn a_login_without_a_registry_keeps_its_pass<A: AuthSource, P: ServerParameterProvider>()
-    ensures cleartext { (source : A) (provider : P) →
-        StaysUnregistered (CleartextMeans (A.answers source) (P.provides provider) Nowhere) }
-    ensures md5 { (source : A) (provider : P) →
-        StaysUnregistered (Md5Means (A.answers source) (P.provides provider) Nowhere) }
+pub fn a_login_without_a_registry_keeps_its_pass<V: PasswordMethod, P: ServerParameterProvider>()
+    ensures password { (method : V) (provider : P) →
+        StaysUnregistered (PasswordMeans (V.opens method) (V.checks method) (P.provides provider)
+        Nowhere) }
     ensures noop { StaysUnregistered (NoopMeans (λ m. LoginStays) Nowhere) }
 {}

@@ -1,13 +1,11 @@
 //! Process numbers and keys, which threads draw through seats of their own. No number stands twice in what a seat drew,
 //! those of the seats that it took in among them.
-ghost use Rattle.std.specs.Prelude.{◌≡◌, ◌⊎◌, ℕ, ◌+◌, ◌<◌, ◌≤◌, Bool, true, false, leb, List, [], ◌∷◌, ◌++◌, IsOk, IfOk, IfErr, Result, ℤ, pos, ◌≤ℤ◌};
-ghost use Rattle.pgw_types.specs.declared.context.ProtocolVersion.TheVariants.{PROTOCOL3_0};
+ghost use Rattle.std.specs.Prelude.{◌≡◌, ℕ, ◌+◌, ◌<◌, ◌≤◌, true, leb, [], ◌∷◌, ◌++◌, IsOk, IfOk, IfErr, Result, ℤ, pos, ◌≤ℤ◌};
 ghost use Rattle.pgw_registry.specs.declared.error.PidError.TheVariants.{PidsExhausted};
 ghost use Rattle.pgw_registry.specs.Numbers.{IsDistinct, NoneBelow, DrewAll, above, saw, drew, with_seat_made, newcomer, both_of};
 ghost use Rattle.pgw_registry.specs.Seats.{Numbers as Listing};
-ghost use Rattle.pgw_registry.specs.Key.{process_key};
 ghost use Rattle.pgw_registry.specs.Shares.{IsSomeShare, half};
-ghost use Rattle.pgw_registry.specs.Generator.{unused, cut_from, IsNext, NoNumber, Generates, NoSeat, joint_numbers};
+ghost use Rattle.pgw_registry.specs.Generator.{unused, cut_from, IsNext, Generates, NoSeat, joint_numbers};
 
 use crate::error::PidError;
 use crate::key::key_for;

@@ -1,5 +1,4 @@
 //! What a seat knows of the numbers, the rule of the word, and the steps on it.
-ghost use Rattle.std.specs.Prelude.{ℕ};
 
 use crate::share::Share;
 use atomic_table::{Join, Play, Seat, Split, Table, TableRule};

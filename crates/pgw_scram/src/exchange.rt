@@ -1,7 +1,6 @@
 //! What a client sends (RFC 5802, section 5), of texts that are prepared.
-ghost use Rattle.std.specs.Prelude.{◌≡◌, ◌++◌, IfOk, Ok, Some, None, option_map, codes, IsUtf8};
-ghost use Rattle.pgw_hash.specs.Pbkdf2.{salted_password};
-ghost use Rattle.pgw_scram.specs.Base64.{base64, salt_of};
+ghost use Rattle.std.specs.Prelude.{◌≡◌, ◌++◌, IfOk, Ok, Some, codes, IsUtf8};
+ghost use Rattle.pgw_scram.specs.Base64.{base64};
 ghost use Rattle.pgw_scram.specs.Formulas.{auth_message, client_proof, server_signature};
 ghost use Rattle.pgw_scram.specs.Exchange.{client_first_bare, client_first, without_proof, client_final, signature};
 ghost use Rattle.pgw_scram.specs.Answers.{AnswersClient};
@@ -51,7 +50,7 @@ pub fn client_first(alloc: Global, login: &ClientLogin) -> Result<Text, OutOfMem
     Ok(Text::from_string(text))
 }
 
-/// The client's last message without its proof.
+// The client's last message without its proof.
 #[tactic(auto, unfolding(crate::specs::Exchange::without_proof))]
 fn without_proof(alloc: Global, binding: &ClientBinding, nonce: &str) -> Result<Text, OutOfMemory>
     ensures { IfOk result (λ text. text ≡ without_proof binding.now nonce.now) }
@@ -69,7 +68,7 @@ pub struct ClientReply {
     pub signature: [u8; 44],
 }
 
-/// The reply by the SaltedPassword and the nonce in the server's first message.
+// The reply by the SaltedPassword and the nonce in the server's first message.
 fn reply(
     alloc: Global,
     salted: &[u8],
@@ -96,7 +95,7 @@ fn reply(
     Ok(ClientReply { message, signature })
 }
 
-/// The client's last message with a proof's text.
+// The client's last message with a proof's text.
 fn with_proof(alloc: Global, without_proof: &str, proof: &[u8; 44]) -> Result<Text, OutOfMemory>
     requires { IsUtf8 proof.now }
     ensures { IfOk result (λ text. text ≡ without_proof.now ++ codes ",p=" ++ proof.now) }
@@ -125,7 +124,7 @@ pub fn client_final(
     reply_to(alloc, login, server_first, &parts)
 }
 
-/// As `client_final`, of the parts of the server's first message.
+// As `client_final`, of the parts of the server's first message.
 fn reply_to(
     alloc: Global,
     login: &ClientLogin,

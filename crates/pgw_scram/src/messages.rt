@@ -1,6 +1,5 @@
 //! The messages of SCRAM (RFC 5802, section 7).
-ghost use Rattle.std.specs.Prelude.{◌≡◌, ◌∷◌, ◌++◌, [], IfOk, IfSome, IfNone, true, false, option_map};
-ghost use Rattle.std.specs.Option.{option_copied};
+ghost use Rattle.std.specs.Prelude.{◌≡◌, IfOk, IfSome, IfNone, true, false, option_map};
 ghost use Rattle.std.specs.Str.{is_utf8};
 ghost use Rattle.pgw_types.specs.Numbers.{number_in};
 ghost use Rattle.pgw_scram.specs.Answers.{IsScramAnswer, scram_result};
@@ -74,7 +73,7 @@ fn is_authzid(text: &str) -> bool
     text == "" || behind_name(text, "a=").is_some()
 }
 
-/// What stands before the bare message, between its commas, and the bare message.
+// What stands before the bare message, between its commas, and the bare message.
 #[derive(Clone, Copy, Drop)]
 struct Header<'a> {
     flag: &'a str,
@@ -100,7 +99,7 @@ fn header_in(text: &str) -> Option<Header<'_>>
 }
 
 impl Header<'_> {
-    /// Its text, with both commas.
+    // Its text, with both commas.
     fn text(&self, alloc: Global) -> Result<Text, OutOfMemory>
         ensures { IfOk result (λ t. t ≡ header_text self.now) }
     {
@@ -112,7 +111,7 @@ impl Header<'_> {
     }
 }
 
-/// The parts of the client's first message in its text.
+// The parts of the client's first message in its text.
 #[derive(Clone, Copy, Drop)]
 struct ClientFirstIn<'a> {
     header: Header<'a>,
@@ -133,7 +132,7 @@ fn client_first_in(text: &str) -> Option<ClientFirstIn<'_>>
     })
 }
 
-/// A message as text.
+// A message as text.
 fn text_of(message: &[u8]) -> Option<&str>
     ensures text { IfSome result (λ t. (t.now ≡ message.now) × (is_utf8 message.now ≡ true)) }
     ensures none { IfNone result (is_utf8 message.now ≡ false) }
@@ -165,7 +164,7 @@ impl ClientFirst {
     }
 }
 
-/// The parts of the server's first message in its text.
+// The parts of the server's first message in its text.
 #[derive(Clone, Copy, Drop)]
 struct ServerFirstIn<'a> {
     nonce: &'a str,
@@ -218,7 +217,7 @@ impl ServerFirst {
     }
 }
 
-/// The parts of the client's last message in its text.
+// The parts of the client's last message in its text.
 #[derive(Clone, Copy, Drop)]
 struct ClientFinalIn<'a> {
     binding: &'a str,

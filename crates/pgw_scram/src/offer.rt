@@ -2,7 +2,7 @@
 ghost use Rattle.std.specs.Prelude.{◌≡◌, ◌++◌, IfOk, codes, IsUtf8};
 ghost use Rattle.std.specs.Option.{option_copied};
 ghost use Rattle.pgw_scram.specs.Answers.{IsScramAnswer};
-ghost use Rattle.pgw_scram.specs.Base64.{base64, nonce_text};
+ghost use Rattle.pgw_scram.specs.Base64.{base64};
 ghost use Rattle.pgw_scram.specs.Offers.{server_first, bound, is_bound, names_end_point, is_misbound, whole_nonce, offer_of, final_for_offer};
 
 use crate::encoding::{encode, encode_joined};

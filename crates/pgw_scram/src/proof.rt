@@ -1,6 +1,5 @@
 //! What a client proves and what a server signs (RFC 5802, section 3). It takes no memory.
 ghost use Rattle.std.specs.Prelude.{◌≡◌};
-ghost use Rattle.sha2.specs.Sha256.{sha256};
 ghost use Rattle.pgw_scram.specs.Base64.{base64};
 ghost use Rattle.pgw_scram.specs.Formulas.{auth_message, client_key, stored_key, server_key, client_signature, proof_by, client_proof, signature_by, server_signature};
 

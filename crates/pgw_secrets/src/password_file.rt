@@ -1,5 +1,5 @@
 //! Files of passwords, as libpq reads them.
-ghost use Rattle.std.specs.Prelude.{◌≡◌, ◌%◌, ◌++◌, IfOk, nat_lt, option_map, decimal};
+ghost use Rattle.std.specs.Prelude.{◌≡◌, ◌%◌, IfOk, nat_lt};
 ghost use Rattle.std.specs.Option.{option_copied};
 ghost use Rattle.pgw_secrets.specs.PasswordFile.{IsFile};
 ghost use Rattle.pgw_secrets.specs.Lookup.{matches, answers_for, IsFound};

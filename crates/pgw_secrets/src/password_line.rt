@@ -128,7 +128,7 @@ fn field_of(alloc: Global, rest: &Octets, text: &[u8]) -> Result<Field, OutOfMem
 
 // ---- lines
 
-/// The parts of a line as they are written.
+// The parts of a line as they are written.
 #[derive(Clone, Copy, Drop)]
 struct Parts<'a> {
     host: &'a [u8],
