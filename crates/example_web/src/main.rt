@@ -28,7 +28,7 @@ use std::process::ExitCode;
 use std::rc::Rc;
 use std::sync::Wait;
 use tokio::net::TcpListener;
-use tokio::runtime::LocalRuntime;
+use tokio::runtime::{Handle, LocalRuntime};
 
 fn first_address<R: Net, A: ToSocketAddrs>(rt: &R, name: A) -> Result<SocketAddr> {
     name.to_socket_addrs(rt)?
@@ -44,17 +44,30 @@ fn server_of<R: Net + AllocGlobal>(rt: &R, config: &Config) -> Result<SocketAddr
     }
 }
 
-fn serve<R: Host + Wait + Print>(rt: R, listen: &str, text: &str) -> Result<()> {
-    let alloc = rt.alloc();
-    let mut runtime = LocalRuntime::new(&rt)?;
-    let handle = runtime.handle();
-    let timer = TokioTimer::new(rt, handle.time().clone()?);
-    let http = Builder::new(alloc, RandomState::new(&rt)?).timer(timer);
-    let config = Config::parse(alloc, text)?;
+// What answers requests, over clients of the server of a connection text.
+fn numbers_of<R: Host>(rt: R, handle: &Handle, text: &str) -> Result<Numbers<R>> {
+    let config = Config::parse(rt.alloc(), text)?;
     let server = server_of(&rt, &config)?;
     let clients = Clients::new(rt, handle.clone()?, server, config)?;
-    let service = Numbers::new(rt, Rc::new(alloc, clients)?);
-    let listener = TcpListener::bind(&rt, first_address(&rt, listen)?, handle.reactor())?;
+    Ok(Numbers::new(rt, Rc::new(rt.alloc(), clients)?))
+}
+
+fn listen_at<R: Host>(rt: &R, handle: &Handle, listen: &str) -> Result<TcpListener> {
+    let address = first_address(rt, listen)?;
+    Ok(TcpListener::bind(rt, address, handle.reactor())?)
+}
+
+fn http_of<R: Host>(rt: R, handle: &Handle) -> Result<Builder<TokioTimer<R>>> {
+    let timer = TokioTimer::new(rt, handle.time().clone()?);
+    Ok(Builder::new(rt.alloc(), RandomState::new(&rt)?).timer(timer))
+}
+
+fn serve<R: Host + Wait + Print>(rt: R, listen: &str, text: &str) -> Result<()> {
+    let mut runtime = LocalRuntime::new(&rt)?;
+    let handle = runtime.handle();
+    let http = http_of(rt, handle)?;
+    let service = numbers_of(rt, handle, text)?;
+    let listener = listen_at(&rt, handle, listen)?;
     println!(rt; "serving at http://{}", listener.local_addr()?)?;
     let connections = listener
         .incoming()

@@ -1,7 +1,8 @@
 -- Taking the messages at the front: how it goes on, and how it stops.
-use Rattle.std.proofs.Common.{◌≡◌, ℕ, List, [], ◌++◌, true, false, Ok, Err, refl, ◌∙◌, ap, sym, append_assoc}
+use Rattle.std.proofs.Common.{◌≡◌, ℕ, List, [], ◌∷◌, ◌++◌, length, arith, true, false, Ok, Err, refl, ◌∙◌, ap, sym, append_assoc}
 use Rattle.std.proofs.lemmas.List.{append-nil}
 use Rattle.pgw_backend.specs.declared.client_error.PgWireClientError.{PgWireClientError as ClientError}
+use Rattle.pgw_backend.proofs.FrontLaws.{front_nil}
 use Rattle.pgw_machine.specs.Course.{Waits, run}
 use Rattle.pgw_machine.proofs.CourseLaws.{run_append}
 use Rattle.pgw_session.specs.declared.notes.Notes.{Notes}
@@ -22,6 +23,17 @@ first input notes inbox out = record {
   puts = sym (append-nil out);
   leads = λ sent. run_nothing input notes sent ∙ ap (λ (w : List ℕ). Waits notes w []) (sym (append-nil sent));
 }
+
+-- there is nothing to take
+pub nothing : (input : Input) (notes : Notes) (inbox out : List ℕ) → length inbox ≡ 0
+    → Serves input notes notes inbox inbox out out (Ok false)
+nothing input notes [] out none = record {
+  notes = notes;
+  left = [];
+  way = first input notes [] out;
+  stops = (refl, refl, front_nil notes.standing.version);
+}
+nothing input notes (byte ∷ inbox) out none = absurd (omega (arith, none))
 
 pub went : (input : Input) (old notes next : Notes) (old_inbox inbox rest old_out out new_out : List ℕ)
     → InboxLeadsTo input old notes old_inbox inbox old_out out

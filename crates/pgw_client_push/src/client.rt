@@ -1,13 +1,11 @@
 //! A client whose bytes the caller moves.
-ghost use Rattle.std.specs.Prelude.{◌≡◌, ◌≤◌, ◌<◌, ◌+◌, ◌++◌, ◌∷◌, ◌⊎◌, ℕ, List, [], length, Some, None, Ok, Err, IfSome, IfOk, OnErr};
+ghost use Rattle.std.specs.Prelude.{◌≡◌, ◌≤◌, ◌<◌, ◌+◌, ◌∷◌, ℕ, List, [], length, Some, None, Ok, Err, IfSome, IfOk};
 ghost use Rattle.std.specs.Bool.{Decides};
 ghost use Rattle.pgw_backend.specs.declared.client_error.PgWireClientError.TheVariants as client;
 ghost use Rattle.pgw_dialogue.specs.Answers.{answer_behind};
 ghost use Rattle.pgw_dialogue.specs.Demands.{RefusesKey};
-ghost use Rattle.pgw_dialogue.specs.Machine.{notes_end, StartsRun};
 ghost use Rattle.pgw_dialogue.specs.Wire.{IsEndError, Unless};
 ghost use Rattle.pgw_session.specs.declared.types.Answer.{Answer as TheAnswer};
-ghost use Rattle.pgw_session.specs.declared.types.Request.{Request as TheRequest};
 ghost use Rattle.pgw_session.specs.Demands.{refused_config};
 ghost use Rattle.pgw_session.specs.Failures.{EndsAs};
 ghost use Rattle.pgw_session.specs.Input.{input_with, Input as TheInput};

@@ -25,6 +25,9 @@ pub(crate) fn serve(
     ensures serves { Serves (input_of input.now) notes.old notes.new inbox.old inbox.new
         out.old.items out.new.items result }
 {
+    if inbox.len() == 0 {
+        return Ok(false);
+    }
     'messages: loop {
         match advance(alloc, input, notes, inbox, out) {
             Ok(Progress::More) => return Ok(false),

@@ -3,6 +3,8 @@ use Rattle.std.proofs.Common.{◌≡◌, ℕ, List, [], ◌∷◌, ◌++◌, len
 use Rattle.std.proofs.lemmas.List.{append-nil}
 use Rattle.std.specs.Bool.{Decides}
 use Rattle.std.specs.Prelude.{IfOk, IsSomeAnd}
+use Rattle.std.specs.Global.{Global}
+use Rattle.std.specs.declared.boxed.Box.{Box}
 use Rattle.std.specs.declared.io.Error.{Error}
 use Rattle.tokio.specs.declared.io.async_read.AsyncRead as AsyncRead
 use Rattle.tokio.specs.declared.io.async_write.AsyncWrite as AsyncWrite
@@ -15,12 +17,13 @@ use Rattle.pgw_session.specs.declared.types.Answer.{Answer}
 use Rattle.pgw_session.specs.declared.types.Request.{Request}
 use Rattle.pgw_session.specs.Input.{Input}
 use Rattle.pgw_tokio_moving.specs.Calls.{Call, Ended, Trail}
-use Rattle.pgw_tokio_moving.specs.Future.{CameTo}
+use Rattle.pgw_tokio_moving.specs.Future.{CameTo, moved_of}
 use Rattle.pgw_tokio_moving.specs.Moving.{Mover, held_in, Stops as Ends_by}
 use Rattle.pgw_tokio_moving.specs.declared.engine.Turn.TheVariants as turn
 use Rattle.pgw_tokio_moving.specs.declared.exchange.Exchange.{Exchange}
 use Rattle.pgw_tokio_moving.specs.declared.exchange.Stop.{Stop}
 use Rattle.pgw_tokio_moving.specs.declared.exchange.Stop.TheVariants as stop
+use Rattle.pgw_tokio_moving.specs.declared.moving.BoxedMoved.{BoxedMoved}
 use Rattle.pgw_tokio_moving.specs.declared.moving.Moved.{Moved}
 use Rattle.pgw_client_push.specs.declared.client.PushClient.{PushClient}
 use Rattle.pgw_frontend.specs.Frontend.{encodings}
@@ -39,7 +42,7 @@ use Rattle.pgw_tokio.specs.Failing.{Fails}
 use Rattle.pgw_tokio.specs.Faults.{fault_after}
 use Rattle.pgw_tokio.specs.First.{refusal_of, turn_of}
 use Rattle.pgw_tokio.specs.Tape.{stream_errors, error_list, with_call, tape_after, stream_tape}
-use Rattle.pgw_tokio.proofs.CallLaws.{Paced, UnderCall, answers_by, broken_by, broken_not_idle, fails_same, flushed_at, has_by, more_by, open_not_idle, over_ended, over_fault, over_refused, paced_runs, runs_under, sent_all}
+use Rattle.pgw_tokio.proofs.CallLaws.{Paced, UnderCall, answers_by, broken_by, broken_not_idle, fails_same, fault_runs, flushed_at, has_by, more_by, open_not_idle, over_ended, over_fault, over_refused, paced_runs, runs_under, sent_all}
 use Rattle.pgw_tokio.proofs.IdleLaws.{Idle, idle_runs, idle_stops}
 use Rattle.pgw_tokio.proofs.StreamLaws.{calls_faults, calls_of, calls_trail, end_engine, tape_append}
 use Rattle.pgw_tokio.proofs.UnderLaws.{Flushing}
@@ -278,6 +281,14 @@ module _ {S : Type 0} (reader : AsyncRead.Ghosts S) (writer : AsyncWrite.Ghosts 
       let u : IsUnasked old q made answered.client e = record { was = was; stays = s.0; cause = not.2 } in
       subst (AskingOutcome old q made answered.client) (sym s.1) (inr (inl u))
 
+  -- what is kept of an earlier call that failed
+  fault_is : moved.engine.fault ≡ h.engine.fault
+  fault_is =
+      let ran = came.ran in
+      ap (λ (e : ClientEngine). e.fault)
+      (came.engine_is ∙ end_engine reader writer client_members moved.stop ran.mid came.last ran.last ran.stops)
+      ∙ fault_runs reader writer h ran.mid ran.calls ran.runs
+
   asks_at : (is_usable : Bool) → Decides is_usable (IsUsable old) → IsAboutToAsk is_usable old q h
       → stream_in answered.client ≡ moved.stream
       → RequestAnswers moved.engine.client moved.engine.refusal moved.stop (push_in answered.client)
@@ -301,13 +312,6 @@ module _ {S : Type 0} (reader : AsyncRead.Ghosts S) (writer : AsyncWrite.Ghosts 
 
 -- ---- the future
 
--- the exchange is the one that was made
-pub about_by : {S : Type 0} (h : Mover S ClientEngine) (o : Option (Exchange S ClientEngine))
-    → IsSomeAnd o (λ x. held_in x ≡ h) → (P : Mover S ClientEngine → Type 0) → P h
-    → IsSomeAnd o (λ x. P (held_in x))
-about_by h None is P holds = is
-about_by h (Some x) is P holds = subst P (sym is) holds
-
 module _ {S : Type 0} (reader : AsyncRead.Ghosts S) (writer : AsyncWrite.Ghosts S) where
   behind_at : (why : Stop) (mid new : Mover S ClientEngine) (last : List Call)
       → Ends_by reader writer client_members mid why last new → ClientStands new.engine new.turn
@@ -318,32 +322,35 @@ module _ {S : Type 0} (reader : AsyncRead.Ghosts S) (writer : AsyncWrite.Ghosts 
       subst (ClientStands new.engine) (ap (λ (h : Mover S ClientEngine). h.turn) d.2 ∙ d.1) stands
   behind_at (stop.Fault e) mid new last stops stands = tt
 
-  pub behind_some : (o : Option (Exchange S ClientEngine)) (moved : Moved S ClientEngine)
-      → IsSomeAnd o (λ x. CameTo reader writer client_members (held_in x) moved)
+  pub behind_some : (o : Option (Box (Exchange S ClientEngine) Global)) (moved : Moved S ClientEngine)
+      → IsSomeAnd o (λ b. CameTo reader writer client_members (held_in b.value) moved)
       → ClientStandsBehind moved.engine moved.stop
   behind_some None moved came = absurd came
-  behind_some (Some x) moved came =
+  behind_some (Some b) moved came =
       let ran = came.ran in
       subst (λ (e : ClientEngine). ClientStandsBehind e moved.stop) (sym came.engine_is)
       (behind_at moved.stop ran.mid came.last ran.last ran.stops came.stands)
 
-  asks_some : (o : Option (Exchange S ClientEngine)) (moved : Moved S ClientEngine) (answered : Answered S)
-      (old : AsyncClient S) (q : Request) (is_usable : Bool)
-      → IsSomeAnd o (λ x. CameTo reader writer client_members (held_in x) moved)
-      → Decides is_usable (IsUsable old) → IsSomeAnd o (λ x. IsAboutToAsk is_usable old q (held_in x))
-      → stream_in answered.client ≡ moved.stream
+  asks_some : (o : Option (Box (Exchange S ClientEngine) Global)) (moved : Moved S ClientEngine)
+      (answered : Answered S) (old : AsyncClient S) (q : Request) (is_usable : Bool)
+      → IsSomeAnd o (λ b. CameTo reader writer client_members (held_in b.value) moved)
+      → Decides is_usable (IsUsable old) → IsSomeAnd o (λ b. IsAboutToAsk is_usable old q (held_in b.value))
+      → IsSomeAnd o (λ b. b.value.engine.fault ≡ fault_in old) → stream_in answered.client ≡ moved.stream
       → RequestAnswers moved.engine.client moved.engine.refusal moved.stop (push_in answered.client)
-      answered.answer → fault_in answered.client ≡ fault_after moved.stop (fault_in old)
+      answered.answer → fault_in answered.client ≡ fault_after moved.stop moved.engine.fault
       → AsksOverStream reader writer old q answered
-  asks_some None moved answered old q is_usable came decides about stream answers kept = absurd came
-  asks_some (Some x) moved answered old q is_usable came decides about stream answers kept =
-      asks_at reader writer old q (held_in x) moved answered came is_usable decides about stream answers kept
+  asks_some None moved answered old q is_usable came decides about earlier stream answers kept = absurd came
+  asks_some (Some b) moved answered old q is_usable came decides about earlier stream answers kept =
+      let h = held_in b.value in
+      asks_at reader writer old q h moved answered came is_usable decides about stream answers
+      (kept ∙ ap (fault_after moved.stop) (fault_is reader writer old q h moved answered came ∙ earlier))
 
-  pub gives_by : (f : Asking S) (moved : Moved S ClientEngine) (answered : Answered S)
-      → IsSomeAnd f.moving.state (λ x. CameTo reader writer client_members (held_in x) moved)
-      → stream_in answered.client ≡ moved.stream
-      → RequestAnswers moved.engine.client moved.engine.refusal moved.stop (push_in answered.client)
-      answered.answer → fault_in answered.client ≡ fault_after moved.stop f.fault
+  pub gives_by : (f : Asking S) (moved : BoxedMoved S ClientEngine) (answered : Answered S)
+      → IsSomeAnd f.moving.state (λ b. CameTo reader writer client_members (held_in b.value) (moved_of moved))
+      → stream_in answered.client ≡ moved.exchange.value.stream
+      → RequestAnswers moved.exchange.value.engine.client moved.exchange.value.engine.refusal moved.stop
+      (push_in answered.client) answered.answer
+      → fault_in answered.client ≡ fault_after moved.stop moved.exchange.value.engine.fault
       → GivesAnswered reader writer f answered
   gives_by f moved answered came stream answers kept = record {
     moved = moved;
@@ -351,6 +358,6 @@ module _ {S : Type 0} (reader : AsyncRead.Ghosts S) (writer : AsyncWrite.Ghosts 
     stream = stream;
     answers = answers;
     fault = kept;
-    asks = λ old q is. asks_some f.moving.state moved answered old q is.is_usable came is.decides is.about stream
-        answers (kept ∙ ap (fault_after moved.stop) is.fault);
+    asks = λ old q is. asks_some f.moving.state (moved_of moved) answered old q is.is_usable came is.decides
+        is.about is.fault stream answers kept;
   }

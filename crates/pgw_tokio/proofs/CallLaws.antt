@@ -67,6 +67,29 @@ not_refused input limit given put answers = answers.tells
 not_ended : IsEndError client.IoError → ⊥
 not_ended end = end
 
+-- ---- the error of a call that failed
+
+module _ {S : Type 0} (reader : AsyncRead.Ghosts S) (writer : AsyncWrite.Ghosts S) where
+  fault_call : (old new : Mover S ClientEngine) (call : Call) → CallGoesOn call
+      → Step reader writer client_members old call new → new.engine.fault ≡ old.engine.fault
+  fault_call old new (Gave bytes) on step = ((step.1).3).1
+  fault_call old new Ended on step = absurd on
+  fault_call old new (Wrote bytes) on step = ap (λ (h : Mover S ClientEngine). h.engine.fault) (step.1).1
+  fault_call old new Flushed on step = ap (λ (h : Mover S ClientEngine). h.engine.fault) (step.1).2
+  fault_call old new Waited on step = ap (λ (h : Mover S ClientEngine). h.engine.fault) step.1
+  fault_call old new (Unread e) on step = absurd on
+  fault_call old new (Unwritten e) on step = absurd on
+  fault_call old new (Unflushed e) on step = absurd on
+
+  -- none of these calls failed, and what is kept of an earlier one stays
+  pub fault_runs : (old new : Mover S ClientEngine) (calls : List Call)
+      → MovesStreamBytes reader writer client_members old calls new → new.engine.fault ≡ old.engine.fault
+  fault_runs old new [] runs = ap (λ (h : Mover S ClientEngine). h.engine.fault) (sym runs)
+  fault_runs old new (call ∷ calls) runs = fault_runs runs.0 new calls runs.3
+      ∙ fault_call old runs.0 call runs.1 runs.2
+
+-- ---- call by call
+
 module _ {S : Type 0} (asked : Option (List Request)) where
   -- no end has come, what was written is flushed or is to be, a client that was refused is broken, and one that was not
   -- was asked this
@@ -82,7 +105,7 @@ module _ {S : Type 0} (asked : Option (List Request)) where
         → Step reader writer client_members old call new → Paced t old → Paced (with_call t call) new
     paced_call t old new (Gave bytes) on step u =
         let d = step.1 in
-        let f : FeedsClient old.engine.client new.engine.client new.engine.refusal bytes new.out new.turn = d.3 in
+        let f : FeedsClient old.engine.client new.engine.client new.engine.refusal bytes new.out new.turn = (d.3).0 in
         record {
           not_ended = u.not_ended;
           flushing = subst (λ b. Flushing b (with_call t (Gave bytes))) (sym d.4)
@@ -203,7 +226,7 @@ module _ {S : Type 0} where
           → UnderCall input limit given put (with_call t call) new
       call_on t old new (Gave bytes) on step u =
           let d = step.1 in
-          gave t old new bytes u (d.0).0 d.3
+          gave t old new bytes u (d.0).0 (d.3).0
       call_on t old new Ended on step u = absurd on
       call_on t old new (Wrote bytes) on step u =
           let d = step.1 in

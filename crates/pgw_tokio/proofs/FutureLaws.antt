@@ -11,7 +11,7 @@ use Rattle.tokio.specs.declared.time.error.Elapsed.{Elapsed}
 use Rattle.tokio.specs.declared.time.timeout.Timeout.{Timeout}
 use Rattle.tokio.specs.Net.{connect_state, ConnectGives}
 use Rattle.tokio.specs.Timers.{timeout_future}
-use Rattle.pgw_tokio.specs.Connect.{HandsOut}
+use Rattle.pgw_tokio.specs.Connect.{HandsOutSocket}
 use Rattle.pgw_tokio.specs.declared.sockets.Connecting.TheVariants.{Limited}
 use Rattle.tokio.specs.declared.io.async_read.AsyncRead as AsyncRead
 use Rattle.tokio.specs.declared.io.async_write.AsyncWrite as AsyncWrite
@@ -47,7 +47,7 @@ on_ready P Pending x is holds = cc
 pub limited_same : (old new : Timeout ConnectFuture)
     → ((x : Result (Result TcpStream Error) Elapsed) → IfOk x (ConnectGives (connect_state (timeout_future new)))
     → IfOk x (ConnectGives (connect_state (timeout_future old))))
-    → (x : Result TcpStream Error) → HandsOut (Limited new) x → HandsOut (Limited old) x
+    → (x : Result TcpStream Error) → HandsOutSocket (Limited new) x → HandsOutSocket (Limited old) x
 limited_same old new same (Ok stream) gives = same (Ok (Ok stream)) gives
 limited_same old new same (Err e) gives = tt
 

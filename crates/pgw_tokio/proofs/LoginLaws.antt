@@ -1,6 +1,8 @@
 -- What a login over a stream comes to.
 use Rattle.std.proofs.Common.{◌≡◌, ℕ, List, [], length, Option, Some, None, Result, Ok, Err, false, refl, ◌∙◌, ap, sym, subst}
 use Rattle.std.specs.Prelude.{IsSomeAnd}
+use Rattle.std.specs.Global.{Global}
+use Rattle.std.specs.declared.boxed.Box.{Box}
 use Rattle.std.specs.declared.io.Error.{Error}
 use Rattle.tokio.specs.declared.io.async_read.AsyncRead as AsyncRead
 use Rattle.tokio.specs.declared.io.async_write.AsyncWrite as AsyncWrite
@@ -10,11 +12,12 @@ use Rattle.pgw_link.specs.Tape.{Tape, new_tape}
 use Rattle.pgw_session.specs.declared.types.Request.{Request}
 use Rattle.pgw_session.specs.Input.{Input}
 use Rattle.pgw_tokio_moving.specs.Calls.{Call, Ended, Trail}
-use Rattle.pgw_tokio_moving.specs.Future.{CameTo}
+use Rattle.pgw_tokio_moving.specs.Future.{CameTo, moved_of}
 use Rattle.pgw_tokio_moving.specs.Moving.{Mover, held_in, Stops as Ends_by}
 use Rattle.pgw_tokio_moving.specs.declared.exchange.Exchange.{Exchange}
 use Rattle.pgw_tokio_moving.specs.declared.exchange.Stop.{Stop}
 use Rattle.pgw_tokio_moving.specs.declared.exchange.Stop.TheVariants as stop
+use Rattle.pgw_tokio_moving.specs.declared.moving.BoxedMoved.{BoxedMoved}
 use Rattle.pgw_tokio_moving.specs.declared.moving.Moved.{Moved}
 use Rattle.pgw_client_push.specs.declared.client.PushClient.{PushClient}
 use Rattle.pgw_client_push.specs.Standing.{IsIdle, StandsFor}
@@ -179,32 +182,33 @@ module _ {S : Type 0} (reader : AsyncRead.Ghosts S) (writer : AsyncWrite.Ghosts 
       subst (ClientStands new.engine) (ap (λ (h : Mover S ClientEngine). h.turn) d.2 ∙ d.1) stands
   behind_at (stop.Fault e) mid new last stops stands = tt
 
-  pub behind_some : (o : Option (Exchange S ClientEngine)) (moved : Moved S ClientEngine)
-      → IsSomeAnd o (λ x. CameTo reader writer client_members (held_in x) moved)
+  pub behind_some : (o : Option (Box (Exchange S ClientEngine) Global)) (moved : Moved S ClientEngine)
+      → IsSomeAnd o (λ b. CameTo reader writer client_members (held_in b.value) moved)
       → ClientStandsBehind moved.engine moved.stop
   behind_some None moved came = absurd came
-  behind_some (Some x) moved came =
+  behind_some (Some b) moved came =
       let ran = came.ran in
       subst (λ (e : ClientEngine). ClientStandsBehind e moved.stop) (sym came.engine_is)
       (behind_at moved.stop ran.mid came.last ran.last ran.stops came.stands)
 
-  logs_some : (o : Option (Exchange S ClientEngine)) (moved : Moved S ClientEngine)
+  logs_some : (o : Option (Box (Exchange S ClientEngine) Global)) (moved : Moved S ClientEngine)
       (result : Result (AsyncClient S) (NotLoggedIn S))
-      → IsSomeAnd o (λ x. CameTo reader writer client_members (held_in x) moved)
+      → IsSomeAnd o (λ b. CameTo reader writer client_members (held_in b.value) moved)
       → EndsLogin moved.stream moved.engine moved.stop result → (input : Input) (limit : ℕ) (first : S)
-      → IsSomeAnd o (λ x. IsAboutToLogIn input limit first (held_in x))
+      → IsSomeAnd o (λ b. IsAboutToLogIn input limit first (held_in b.value))
       → LogsInOverStream reader writer input limit first result
   logs_some None moved result came ends input limit first about = absurd came
-  logs_some (Some x) moved result came ends input limit first about =
-      logs_at input limit first (held_in x) moved result about came ends
+  logs_some (Some b) moved result came ends input limit first about =
+      logs_at input limit first (held_in b.value) moved result about came ends
 
-  pub gives_by : (f : LoggingIn S) (moved : Moved S ClientEngine)
+  pub gives_by : (f : LoggingIn S) (moved : BoxedMoved S ClientEngine)
       (result : Result (AsyncClient S) (NotLoggedIn S))
-      → IsSomeAnd f.moving.state (λ x. CameTo reader writer client_members (held_in x) moved)
-      → EndsLogin moved.stream moved.engine moved.stop result → GivesLogin reader writer f result
+      → IsSomeAnd f.moving.state (λ b. CameTo reader writer client_members (held_in b.value) (moved_of moved))
+      → EndsLogin moved.exchange.value.stream moved.exchange.value.engine moved.stop result
+      → GivesLogin reader writer f result
   gives_by f moved result came ends = record {
     moved = moved;
     came = came;
     ends = ends;
-    logs = logs_some f.moving.state moved result came ends;
+    logs = logs_some f.moving.state (moved_of moved) result came ends;
   }

@@ -13,9 +13,9 @@ use Rattle.pgw_session.specs.declared.types.Request.{Request}
 use Rattle.pgw_session.specs.Input.{Input}
 use Rattle.pgw_session.specs.Requests.{sends_of}
 use Rattle.pgw_tokio_moving.specs.Calls.{Call, Trail}
-use Rattle.pgw_tokio_moving.specs.Future.{CameTo}
+use Rattle.pgw_tokio_moving.specs.Future.{CameTo, moved_of}
 use Rattle.pgw_tokio_moving.specs.Moving.{Mover, held_in}
-use Rattle.pgw_tokio_moving.specs.declared.moving.Moved.{Moved}
+use Rattle.pgw_tokio_moving.specs.declared.moving.BoxedMoved.{BoxedMoved}
 use Rattle.pgw_client_push.specs.Calls.{IsLastAnswer, input_with_request}
 use Rattle.pgw_tokio.specs.declared.asking.Answered.{Answered}
 use Rattle.pgw_tokio.specs.declared.asking.Asking.{Asking}
@@ -109,12 +109,12 @@ pub record IsAskingOf {S : Type 0} (old : AsyncClient S) (q : Request) (f : Aski
   where
     pub is_usable : Bool
     pub decides : Decides is_usable (IsUsable old)
-    pub fault : f.fault ≡ fault_in old
-    pub about : IsSomeAnd f.moving.state (λ x. IsAboutToAsk is_usable old q (held_in x))
+    pub fault : IsSomeAnd f.moving.state (λ b. b.value.engine.fault ≡ fault_in old)
+    pub about : IsSomeAnd f.moving.state (λ b. IsAboutToAsk is_usable old q (held_in b.value))
 
 -- it has not given what it gives
 abbrev pub CanAsk : {S : Type 0} → Asking S → Type 0
-CanAsk f = IsSomeAnd f.moving.state (λ x. ClientStands x.engine x.turn)
+CanAsk f = IsSomeAnd f.moving.state (λ b. ClientStands b.value.engine b.value.turn)
 
 -- ---- what it gives
 
@@ -122,12 +122,13 @@ module _ {S : Type 0} (reader : AsyncRead.Ghosts S) (writer : AsyncWrite.Ghosts 
   -- Calls were made, as `pgw_tokio_moving` tells them, and it is answered by why no more was moved; so it is what is
   -- promised of a request, where it was about to ask one.
   pub record GivesAnswered (f : Asking S) (answered : Answered S) : Type 0 where
-    pub moved : Moved S ClientEngine
-    pub came : IsSomeAnd f.moving.state (λ x. CameTo reader writer client_members (held_in x)
-        moved)
-    pub stream : stream_in answered.client ≡ moved.stream
-    pub answers : RequestAnswers moved.engine.client moved.engine.refusal moved.stop
-        (push_in answered.client) answered.answer
-    pub fault : fault_in answered.client ≡ fault_after moved.stop f.fault
+    pub moved : BoxedMoved S ClientEngine
+    pub came : IsSomeAnd f.moving.state
+        (λ b. CameTo reader writer client_members (held_in b.value) (moved_of moved))
+    pub stream : stream_in answered.client ≡ moved.exchange.value.stream
+    pub answers : RequestAnswers moved.exchange.value.engine.client
+        moved.exchange.value.engine.refusal moved.stop (push_in answered.client) answered.answer
+    pub fault : fault_in answered.client
+        ≡ fault_after moved.stop moved.exchange.value.engine.fault
     pub asks : (old : AsyncClient S) (q : Request) → IsAskingOf old q f
         → AsksOverStream reader writer old q answered

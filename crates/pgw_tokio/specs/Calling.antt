@@ -1,4 +1,4 @@
--- A client as an engine, while it logs in and while a request is asked.
+-- A client as an engine, with the error of its stream.
 use Rattle.std.specs.Prelude.{◌≡◌, ℕ, Bool, true, false, List, [], ◌∷◌, Option, Some, None, Result, Ok, Err, IfOk}
 use Rattle.pgw_backend.specs.declared.client_error.PgWireClientError.{PgWireClientError as ClientError}
 use Rattle.pgw_backend.specs.declared.client_error.PgWireClientError.TheVariants as client
@@ -22,7 +22,8 @@ use Rattle.pgw_tokio.specs.Feeding.{FeedsClient}
 use Rattle.pgw_tokio.specs.First.{refusal_of, turn_of}
 
 abbrev pub ClientFeeds : ClientEngine → List ℕ → List ℕ → Turn → ClientEngine → Type 0
-ClientFeeds old given put turn new = FeedsClient old.client new.client new.refusal given put turn
+ClientFeeds old given put turn new =
+    FeedsClient old.client new.client new.refusal given put turn × (new.fault ≡ old.fault)
 
 -- a segment is open; or the client was refused, or it can be asked
 abbrev pub ClientStands : ClientEngine → Turn → Type 0
@@ -66,6 +67,11 @@ abbrev pub MeansEnd : PushClient → ClientError → Type 0
 MeansEnd c why =
     IsEndError why × ((input : Input) (limit : ℕ) (given put : List ℕ)
     → StandsFor input limit c given put → Unless why (EndsAs input given put why))
+
+-- the client, unless there is an error
+abbrev pub client_unless : PushClient → Option ClientError → Result PushClient ClientError
+client_unless c None = Ok c
+client_unless c (Some e) = Err e
 
 abbrev pub LoginOver : PushClient → Option ClientError → Result PushClient ClientError → Type 0
 LoginOver c None result = (result ≡ Ok c) × IsIdle c

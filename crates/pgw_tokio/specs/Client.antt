@@ -8,13 +8,13 @@ use Rattle.pgw_tokio.specs.declared.client.AsyncClient.{AsyncClient}
 
 -- its stream; the client that it moves the bytes of; and the error of the call that failed, if one did
 abbrev pub stream_in : {S : Type 0} → AsyncClient S → S
-stream_in c = c.stream
+stream_in c = c.exchange.value.stream
 
 abbrev pub push_in : {S : Type 0} → AsyncClient S → PushClient
-push_in c = c.client
+push_in c = c.exchange.value.engine.client
 
 abbrev pub fault_in : {S : Type 0} → AsyncClient S → Option Error
-fault_in c = c.fault
+fault_in c = c.exchange.value.engine.fault
 
 -- it can be asked: its last segment has closed, and no call of its stream failed
 abbrev pub IsUsable : {S : Type 0} → AsyncClient S → Type 0

@@ -13,7 +13,7 @@ use Rattle.pgw_tokio.specs.declared.sockets.Connecting.TheVariants.{Limited, Unl
 abbrev pub IsSeconds : ℕ → Duration → Type 0
 IsSeconds seconds d = as_nanos d ≡ seconds * 1000000000
 
--- it ends so many seconds from now at the latest, where there is a limit
+-- its deadline lies so many seconds behind some instant, where there is a limit
 abbrev pub IsLimitedBy : Option ℕ → Connecting → Type 0
 IsLimitedBy None (Unlimited f) = Unit {0}
 IsLimitedBy (Some seconds) (Limited t) = (d : Duration) × IsSeconds seconds d × IsDelayedBy d
@@ -27,7 +27,7 @@ ConnectNeeds (Limited t) source = SocketNeeds (connect_state (timeout_future t))
     (source ≡ sleep_source (timeout_delay t))
 
 -- the socket is the one that was connecting
-abbrev pub HandsOut : Connecting → Result TcpStream Error → Type 0
-HandsOut (Unlimited f) r = IfOk r (λ stream. ConnectGives (connect_state f) (Ok stream))
-HandsOut (Limited t) r = IfOk r (λ stream. ConnectGives (connect_state (timeout_future t))
+abbrev pub HandsOutSocket : Connecting → Result TcpStream Error → Type 0
+HandsOutSocket (Unlimited f) r = IfOk r (λ stream. ConnectGives (connect_state f) (Ok stream))
+HandsOutSocket (Limited t) r = IfOk r (λ stream. ConnectGives (connect_state (timeout_future t))
     (Ok stream))

@@ -9,11 +9,11 @@ use Rattle.pgw_dialogue.specs.Dialogue.{StartCause}
 use Rattle.pgw_session.specs.Input.{Input}
 use Rattle.pgw_session.specs.Segments.{startup_message}
 use Rattle.pgw_tokio_moving.specs.Calls.{Call, Trail}
-use Rattle.pgw_tokio_moving.specs.Future.{CameTo}
+use Rattle.pgw_tokio_moving.specs.Future.{CameTo, moved_of}
 use Rattle.pgw_tokio_moving.specs.Moving.{Mover, held_in}
 use Rattle.pgw_tokio_moving.specs.declared.engine.Turn.TheVariants.{More}
 use Rattle.pgw_tokio_moving.specs.declared.exchange.Stop.{Stop}
-use Rattle.pgw_tokio_moving.specs.declared.moving.Moved.{Moved}
+use Rattle.pgw_tokio_moving.specs.declared.moving.BoxedMoved.{BoxedMoved}
 use Rattle.pgw_client_push.specs.declared.client.PushClient.{PushClient}
 use Rattle.pgw_client_push.specs.Standing.{IsOpen, StandsFor}
 use Rattle.pgw_tokio.specs.declared.calling.ClientEngine.{ClientEngine}
@@ -91,11 +91,11 @@ pub record IsAboutToLogIn {S : Type 0} (input : Input) (limit : ℕ) (stream : S
 -- it is about to log in over this stream
 abbrev pub IsLoginOf : {S : Type 0} → Input → ℕ → S → LoggingIn S → Type 0
 IsLoginOf input limit stream f =
-    IsSomeAnd f.moving.state (λ x. IsAboutToLogIn input limit stream (held_in x))
+    IsSomeAnd f.moving.state (λ b. IsAboutToLogIn input limit stream (held_in b.value))
 
 -- it has not given what it gives
 abbrev pub StreamCanLogIn : {S : Type 0} → LoggingIn S → Type 0
-StreamCanLogIn f = IsSomeAnd f.moving.state (λ x. ClientStands x.engine x.turn)
+StreamCanLogIn f = IsSomeAnd f.moving.state (λ b. ClientStands b.value.engine b.value.turn)
 
 -- ---- what it gives
 
@@ -114,9 +114,9 @@ module _ {S : Type 0} (reader : AsyncRead.Ghosts S) (writer : AsyncWrite.Ghosts 
   -- promised of a login, where it was about to log in.
   pub record GivesLogin (f : LoggingIn S) (result : Result (AsyncClient S) (NotLoggedIn S)) : Type 0
     where
-      pub moved : Moved S ClientEngine
+      pub moved : BoxedMoved S ClientEngine
       pub came : IsSomeAnd f.moving.state
-          (λ x. CameTo reader writer client_members (held_in x) moved)
-      pub ends : EndsLogin moved.stream moved.engine moved.stop result
+          (λ b. CameTo reader writer client_members (held_in b.value) (moved_of moved))
+      pub ends : EndsLogin moved.exchange.value.stream moved.exchange.value.engine moved.stop result
       pub logs : (input : Input) (limit : ℕ) (first : S) → IsLoginOf input limit first f
           → LogsInOverStream reader writer input limit first result

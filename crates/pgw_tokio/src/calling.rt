@@ -1,45 +1,54 @@
-//! A client as an engine, while it logs in and while a request is asked.
-ghost use Rattle.std.specs.Prelude.{◌≡◌, ◌≤◌, ◌++◌, ℕ, List, [], true, length};
-ghost use Rattle.pgw_client_push.specs.Standing.{IsIdle, IsOpen};
+//! A client as an engine, with the error of its stream.
+ghost use Rattle.std.specs.Prelude.{◌≡◌, [], true};
+ghost use Rattle.pgw_client_push.specs.Standing.{IsIdle};
 ghost use Rattle.pgw_client_push.specs.Told.{push_room};
 ghost use Rattle.pgw_tokio.specs.Faults.{fault_after};
-ghost use Rattle.pgw_tokio.specs.Feeding.{FeedsClient};
+ghost use Rattle.pgw_tokio.specs.First.{refusal_of, turn_of};
 
-use crate::engine::turn_after;
+use crate::engine::turn_at;
 use bytes::BytesMut;
 use pgw_backend::client_error::{PgWireClientError, PgWireClientResult};
-use pgw_client_push::PushClient;
+use pgw_client_push::{DialoguePhase, PushClient};
 use pgw_session::types::{Answer, Request};
 use pgw_tokio_moving::{Engine, Stop, Turn};
 use std::io;
 
-/// A client, and what it was refused with.
+/// A client, what it was refused with, and the error of the stream's call that failed, if one did.
 pub struct ClientEngine {
     pub(crate) client: PushClient,
     pub(crate) refusal: Option<PgWireClientError>,
+    pub(crate) fault: Option<io::Error>,
 }
 
 // Written out, so that a caller lets one go by one call.
 impl Drop for ClientEngine {
     fn drop(self) {
-        let ClientEngine { client, refusal } = self;
+        let ClientEngine {
+            client,
+            refusal,
+            fault,
+        } = self;
         drop(client);
         drop(refusal);
+        drop(fault);
     }
 }
 
-// Gives a client bytes that came. What it answers is the turn and the refusal.
-fn feed(
-    client: &mut PushClient,
-    piece: &[u8],
-    out: &mut BytesMut,
-) -> (Turn, Option<PgWireClientError>)
-    requires open { IsOpen client.old }
-    requires fits { length piece.now ≤ push_room client.old }
-    ensures { (put : List ℕ) × (out.new.items ≡ out.old.items ++ put)
-        × FeedsClient client.old client.new result.1 piece.now put result.0 }
+// Keeps what an answer refuses, and tells the turn.
+fn keep(refusal: &mut Option<PgWireClientError>, answer: PgWireClientResult<DialoguePhase>) -> Turn
+    ensures turn { result ≡ turn_of answer }
+    ensures refusal { refusal.new ≡ refusal_of answer }
 {
-    turn_after(client.take(piece, out))
+    match answer {
+        Ok(phase) => {
+            *refusal = None;
+            turn_at(phase)
+        }
+        Err(e) => {
+            *refusal = Some(e);
+            Turn::Over
+        }
+    }
 }
 
 // The error of the call that failed, or an earlier one.
@@ -54,82 +63,61 @@ pub(crate) fn fault_after(why: Stop, earlier: Option<io::Error>) -> Option<io::E
 
 impl ClientEngine {
     ghost use Rattle.pgw_tokio.specs.Calling.{BeginsRequest, ClientStands, ClientStandsBehind};
-    ghost use Rattle.pgw_tokio.specs.Calling.{LoginAnswers, RequestAnswers};
+    ghost use Rattle.pgw_tokio.specs.Calling.{LoginAnswers, RequestAnswers, client_unless};
 
-    /// Begins to ask a request: puts out its messages. A client that can't be used stays as it is.
-    pub(crate) fn ask(
-        mut client: PushClient,
-        is_usable: bool,
-        request: Request,
-        out: &mut BytesMut,
-    ) -> (ClientEngine, Turn)
+    /// Begins to ask a request: puts out its messages. Where the client can't be used it stays as it is.
+    pub(crate) fn ask(&mut self, is_usable: bool, request: Request, out: &mut BytesMut) -> Turn
         requires empty { out.old.items ≡ [] }
-        requires idle { is_usable ≡ true → IsIdle client }
-        ensures begins { BeginsRequest is_usable client request result.0 result.1 out.new.items }
-        ensures stands { ClientStands result.0 result.1 }
+        requires idle { is_usable ≡ true → IsIdle self.old.client }
+        ensures begins { BeginsRequest is_usable self.old.client request self.new result
+            out.new.items }
+        ensures stands { ClientStands self.new result }
+        ensures fault { self.new.fault ≡ self.old.fault }
     {
         if !is_usable {
             drop(request);
-            let engine = ClientEngine {
-                client,
-                refusal: Some(PgWireClientError::Broken),
-            };
-            return (engine, Turn::Over);
+            self.refusal = Some(PgWireClientError::Broken);
+            return Turn::Over;
         }
-        let answer = client.ask(request, out);
-        let (turn, refusal) = turn_after(answer);
-        (ClientEngine { client, refusal }, turn)
+        let answer = self.client.ask(request, out);
+        keep(&mut self.refusal, answer)
     }
 
-    /// The client that has logged in, or why there is none, by why no more bytes were moved.
-    pub(crate) fn into_client(self, why: &Stop) -> PgWireClientResult<PushClient>
-        requires { ClientStandsBehind self why.now }
-        ensures { LoginAnswers self.client self.refusal why.now result }
+    /// Why there is no client that has logged in, if there is none, by why no more bytes were moved.
+    pub(crate) fn login_refusal(&mut self, why: &Stop) -> Option<PgWireClientError>
+        requires { ClientStandsBehind self.old why.now }
+        ensures answers { LoginAnswers self.old.client self.old.refusal why.now
+            (client_unless self.old.client result) }
+        ensures same { self.new.client ≡ self.old.client }
     {
-        let ClientEngine { client, refusal } = self;
         match why {
-            Stop::Over => match refusal {
-                None => Ok(client),
-                Some(e) => {
-                    drop(client);
-                    Err(e)
-                }
+            Stop::Over => self.refusal.take(),
+            Stop::End => Some(self.client.at_end()),
+            Stop::Fault(_) => Some(PgWireClientError::IoError),
+        }
+    }
+
+    /// What the client's request is answered, by why no more bytes were moved.
+    pub(crate) fn answer(&mut self, why: Stop) -> PgWireClientResult<Answer>
+        requires { ClientStandsBehind self.old why }
+        ensures answers { RequestAnswers self.old.client self.old.refusal why self.new.client
+            result }
+        ensures fault { self.new.fault ≡ fault_after why self.old.fault }
+    {
+        match why {
+            Stop::Over => match self.refusal.take() {
+                // No client that stands for some bytes lacks its answer then.
+                None => match self.client.take_answer() {
+                    Some(answer) => Ok(answer),
+                    None => Err(PgWireClientError::Broken),
+                },
+                Some(e) => Err(e),
             },
-            Stop::End => {
-                let e = client.at_end();
-                drop(client);
-                Err(e)
-            }
-            Stop::Fault(_) => {
-                drop(client);
+            Stop::End => Err(self.client.at_end()),
+            Stop::Fault(e) => {
+                self.fault = Some(e);
                 Err(PgWireClientError::IoError)
             }
-        }
-    }
-
-    /// The client and what its request is answered, by why no more bytes were moved.
-    pub(crate) fn into_answer(self, why: &Stop) -> (PushClient, PgWireClientResult<Answer>)
-        requires { ClientStandsBehind self why.now }
-        ensures { RequestAnswers self.client self.refusal why.now result.0 result.1 }
-    {
-        let ClientEngine {
-            mut client,
-            refusal,
-        } = self;
-        match why {
-            Stop::Over => match refusal {
-                // No client that stands for some bytes lacks its answer then.
-                None => match client.take_answer() {
-                    Some(answer) => (client, Ok(answer)),
-                    None => (client, Err(PgWireClientError::Broken)),
-                },
-                Some(e) => (client, Err(e)),
-            },
-            Stop::End => {
-                let e = client.at_end();
-                (client, Err(e))
-            }
-            Stop::Fault(_) => (client, Err(PgWireClientError::IoError)),
         }
     }
 }
@@ -150,8 +138,7 @@ impl Engine for ClientEngine {
     }
 
     fn take(&mut self, piece: &[u8], out: &mut BytesMut) -> Turn {
-        let (turn, refusal) = feed(&mut self.client, piece, out);
-        self.refusal = refusal;
-        turn
+        let answer = self.client.take(piece, out);
+        keep(&mut self.refusal, answer)
     }
 }

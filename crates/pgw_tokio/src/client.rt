@@ -1,22 +1,22 @@
 //! A client over a stream that may keep one waiting.
-ghost use Rattle.std.specs.Prelude.{◌≡◌};
+ghost use Rattle.std.specs.Prelude.{◌≡◌, true, false};
 ghost use Rattle.std.specs.Bool.{Decides};
 ghost use Rattle.std.specs.Option.{option_copied};
 ghost use Rattle.pgw_session.specs.declared.types.Request.TheVariants as request;
 ghost use Rattle.pgw_session.specs.declared.types.Target.TheVariants as target;
+ghost use Rattle.pgw_client_push.specs.Standing.{IsIdle};
 ghost use Rattle.pgw_client_push.specs.Told.{config_of, push_room, push_standing};
 ghost use Rattle.pgw_tokio.specs.Client.{IsUsable, fault_in, push_in, stream_in};
 ghost use Rattle.pgw_tokio.specs.Asking.{CanAsk, IsAskingOf};
+ghost use Rattle.pgw_tokio.specs.Calling.{BeginsRequest, ClientStands};
 
 use crate::asking::Asking;
 use crate::calling::ClientEngine;
-use bytes::BytesMut;
-use pgw_client_push::PushClient;
 use pgw_config::config::Config;
 use pgw_query::response::TransactionStatus;
 use pgw_session::standing::Standing;
 use pgw_session::types::{Request, Target};
-use pgw_tokio_moving::{Moving, Piece};
+use pgw_tokio_moving::{BoxedMoving, Exchange};
 use pgw_types::listed::Listed;
 use pgw_types::octets::Octets;
 use pgw_types::text::Text;
@@ -32,13 +32,23 @@ use tokio::io::{AsyncRead, AsyncWrite};
 /// looked at.
 #[derive(Drop)]
 pub struct AsyncClient<S> {
-    pub(crate) stream: S,
-    pub(crate) client: PushClient,
-    // What bytes are read by way of, and what holds those to be written.
-    pub(crate) piece: Piece,
-    pub(crate) out: BytesMut,
-    // The error of the stream's call that failed, if one did.
-    pub(crate) fault: Option<io::Error>,
+    // On the heap, so that a request and its answer move none of it.
+    pub(crate) exchange: Box<Exchange<S, ClientEngine>>,
+}
+
+// Begins to ask a request, with nothing written yet.
+fn begin<S>(exchange: &mut Exchange<S, ClientEngine>, is_usable: bool, request: Request)
+    requires { is_usable ≡ true → IsIdle exchange.old.engine.client }
+    ensures stream { exchange.new.stream ≡ exchange.old.stream }
+    ensures still { exchange.new.unflushed ≡ false }
+    ensures begins { BeginsRequest is_usable exchange.old.engine.client request
+        exchange.new.engine exchange.new.turn exchange.new.out.items }
+    ensures stands { ClientStands exchange.new.engine exchange.new.turn }
+    ensures fault { exchange.new.engine.fault ≡ exchange.old.engine.fault }
+{
+    exchange.out.clear();
+    exchange.turn = exchange.engine.ask(is_usable, request, &mut exchange.out);
+    exchange.unflushed = false;
 }
 
 impl<S> AsyncClient<S> {
@@ -46,35 +56,36 @@ impl<S> AsyncClient<S> {
     pub fn is_usable(&self) -> bool
         ensures { Decides result (IsUsable self.now) }
     {
-        self.fault.is_none() && self.client.is_idle()
+        let engine = &self.exchange.engine;
+        engine.fault.is_none() && engine.client.is_idle()
     }
 
     /// The error of the stream's call that failed, if one did.
     pub fn fault(&self) -> Option<&io::Error>
         ensures { option_copied result ≡ fault_in self.now }
     {
-        self.fault.as_ref()
+        self.exchange.engine.fault.as_ref()
     }
 
     /// The stream that it reads and writes.
     pub fn stream(&self) -> &S
         ensures { result.now ≡ stream_in self.now }
     {
-        &self.stream
+        &self.exchange.stream
     }
 
     /// The configuration that it logged in by.
     pub fn config(&self) -> &Config
         ensures { result.now ≡ config_of (push_in self.now) }
     {
-        self.client.config()
+        self.exchange.engine.client.config()
     }
 
     /// What it was told of its connection. Of a client that can't be used any more nothing is promised of it.
     pub fn standing(&self) -> &Standing
         ensures { result.now ≡ push_standing (push_in self.now) }
     {
-        self.client.told()
+        self.exchange.engine.client.told()
     }
 
     /// The server's parameters, as it last told them.
@@ -99,11 +110,12 @@ impl<S> AsyncClient<S> {
         &self.standing().secret_key
     }
 
-    /// How many bytes more it may read in all. Where there is no room a request is written, and answered by ReadLimit.
+    /// How many bytes more it may read in all. Where there is none a request is written, and answered by ReadLimit
+    /// unless it has no spelling.
     pub fn room(&self) -> u64
         ensures { result ≡ push_room (push_in self.now) }
     {
-        self.client.room()
+        self.exchange.engine.client.room()
     }
 
     /// Whether the server has a transaction open, as it last told.
@@ -125,18 +137,10 @@ impl<S: AsyncRead + AsyncWrite> AsyncClient<S> {
         ensures ready { CanAsk result }
     {
         let is_usable = self.is_usable();
-        let AsyncClient {
-            stream,
-            client,
-            piece,
-            mut out,
-            fault,
-        } = self;
-        out.clear();
-        let (engine, turn) = ClientEngine::ask(client, is_usable, request, &mut out);
+        let AsyncClient { mut exchange } = self;
+        begin(&mut exchange, is_usable, request);
         Asking {
-            moving: Moving::new(stream, engine, turn, out, piece),
-            fault,
+            moving: BoxedMoving::new(exchange),
         }
     }
 

@@ -12,7 +12,7 @@ use pgw_control::terminate::Terminate;
 use pgw_dialogue::standings::own_key;
 use pgw_dialogue::wire::put_all;
 use pgw_frontend::frontend::PgWireFrontendMessage;
-use pgw_tokio_moving::new_piece;
+use pgw_tokio_moving::{Exchange, new_piece};
 use pgw_types::memory::OutOfMemory;
 use pgw_wire::secret_key::SecretKey;
 use std::alloc::Global;
@@ -49,13 +49,16 @@ impl<S: AsyncRead + AsyncWrite> AsyncClient<S> {
         ensures ready { CanSend result }
     {
         let is_usable = self.is_usable();
-        let AsyncClient {
+        let AsyncClient { exchange } = self;
+        let Exchange {
             stream,
-            client: _client,
-            piece,
+            engine,
+            turn: _,
             mut out,
-            fault: _fault,
-        } = self;
+            unflushed: _,
+            piece,
+        } = Box::into_inner(exchange);
+        drop(engine);
         out.clear();
         let refusal = put_end(is_usable, &mut out);
         send(stream, out, refusal, piece)

@@ -1,5 +1,5 @@
 //! A dialogue as an engine.
-ghost use Rattle.std.specs.Prelude.{◌≡◌, ◌⊎◌, [], IsSomeAnd};
+ghost use Rattle.std.specs.Prelude.{◌≡◌, ◌⊎◌, [], Ok, IsSomeAnd};
 ghost use Rattle.pgw_session.specs.Input.{input_with};
 ghost use Rattle.pgw_dialogue.specs.Machine.{notes_end};
 ghost use Rattle.pgw_dialogue.specs.Wire.{IsEndError, Unless};
@@ -51,15 +51,22 @@ fn first_turn(limit: u64) -> Turn
     if limit == 0 { Turn::Over } else { Turn::More }
 }
 
+// What a phase makes of the turn.
+pub(crate) fn turn_at(phase: DialoguePhase) -> Turn
+    ensures { result ≡ turn_of (Ok phase) }
+{
+    match phase {
+        DialoguePhase::Waiting | DialoguePhase::Ready => Turn::More,
+        DialoguePhase::Done => Turn::Over,
+    }
+}
+
 // What an answer makes of the turn and the refusal.
-pub(crate) fn turn_after(
-    answer: PgWireClientResult<DialoguePhase>,
-) -> (Turn, Option<PgWireClientError>)
+fn turn_after(answer: PgWireClientResult<DialoguePhase>) -> (Turn, Option<PgWireClientError>)
     ensures { result ≡ (turn_of answer, refusal_of answer) }
 {
     match answer {
-        Ok(DialoguePhase::Waiting) | Ok(DialoguePhase::Ready) => (Turn::More, None),
-        Ok(DialoguePhase::Done) => (Turn::Over, None),
+        Ok(phase) => (turn_at(phase), None),
         Err(e) => (Turn::Over, Some(e)),
     }
 }

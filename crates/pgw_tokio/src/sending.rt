@@ -1,5 +1,5 @@
 //! Bytes that are written over a stream, with nothing awaited.
-ghost use Rattle.std.specs.Prelude.{◌≡◌, [], IsSomeAnd};
+ghost use Rattle.std.specs.Prelude.{IsSomeAnd};
 ghost use Rattle.pgw_tokio_moving.specs.Moving.{held_in, WaitsFor};
 ghost use Rattle.pgw_tokio.specs.Sending.{CanSend, EndsSending, GivesSent, IsToSend, SilentFeeds, SilentStands, one_is_there};
 

@@ -1,6 +1,6 @@
 //! A connection over TCP, by a configuration's limit of time.
 ghost use Rattle.std.specs.Prelude.{◌≡◌, Ok, IfOk};
-ghost use Rattle.pgw_tokio.specs.Connect.{ConnectNeeds, HandsOut, IsLimitedBy};
+ghost use Rattle.pgw_tokio.specs.Connect.{ConnectNeeds, HandsOutSocket, IsLimitedBy};
 
 use futures::task::{Context, Poll};
 use futures::{Future, ready};
@@ -54,7 +54,7 @@ impl Future for Connecting {
 
     ghost needs = { ConnectNeeds };
 
-    ghost gives = { HandsOut };
+    ghost gives = { HandsOutSocket };
 
     fn poll(&mut self, cx: &mut Context<'_>) -> Poll<io::Result<TcpStream>> {
         match self {

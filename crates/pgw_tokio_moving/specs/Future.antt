@@ -4,8 +4,9 @@ use Rattle.tokio.specs.declared.io.async_read.AsyncRead as AsyncRead
 use Rattle.tokio.specs.declared.io.async_write.AsyncWrite as AsyncWrite
 use Rattle.pgw_tokio_moving.specs.declared.engine.Engine as Engine
 use Rattle.pgw_tokio_moving.specs.declared.engine.Turn.{Turn}
+use Rattle.pgw_tokio_moving.specs.declared.moving.BoxedMoved.{BoxedMoved}
 use Rattle.pgw_tokio_moving.specs.declared.moving.Moved.{Moved}
-use Rattle.pgw_tokio_moving.specs.Moving.{Mover, held_in, HasSoundEngine, Ran}
+use Rattle.pgw_tokio_moving.specs.Moving.{Mover, HasSoundEngine, Ran}
 
 -- before the first call
 abbrev pub fresh_mover : {S E : Type 0} → S → E → Turn → List ℕ → Mover S E
@@ -16,6 +17,16 @@ fresh_mover stream engine turn out = record {
   out =
       out;
   unflushed = false;
+}
+
+-- what comes back on the heap, out of it
+abbrev pub moved_of : {S E : Type 0} → BoxedMoved S E → Moved S E
+moved_of m = record {
+  stream = m.exchange.value.stream;
+  engine = m.exchange.value.engine;
+  out = m.exchange.value.out;
+  piece = m.exchange.value.piece;
+  stop = m.stop;
 }
 
 module _ {S E : Type 0} (reader : AsyncRead.Ghosts S) (writer : AsyncWrite.Ghosts S)

@@ -39,16 +39,16 @@ pub enum Stop {
     Fault(io::Error),
 }
 
-/// A stream, an engine, and what the engine put out and is not written yet.
+/// A stream, an engine with what it answered last, and what it put out and is not written yet.
 #[derive(Drop)]
 pub struct Exchange<S, E> {
-    pub(crate) stream: S,
-    pub(crate) engine: E,
-    pub(crate) turn: Turn,
-    pub(crate) out: BytesMut,
-    // Whether anything was written since the last flush.
-    pub(crate) unflushed: bool,
-    pub(crate) piece: Piece,
+    pub stream: S,
+    pub engine: E,
+    pub turn: Turn,
+    pub out: BytesMut,
+    /// Whether anything was written since the last flush.
+    pub unflushed: bool,
+    pub piece: Piece,
 }
 
 // A call that failed; one that was interrupted is made again at the next poll.

@@ -1,5 +1,5 @@
 //! The future that moves bytes.
-ghost use Rattle.std.specs.Prelude.{◌≡◌, IsSomeAnd};
+ghost use Rattle.std.specs.Prelude.{◌≡◌, Some, IsSomeAnd};
 ghost use Rattle.pgw_tokio_moving.specs.Moving.{held_in, HasSoundEngine, WaitsFor};
 
 use crate::engine::{Engine, Turn};
@@ -88,5 +88,54 @@ impl<S: AsyncRead + AsyncWrite, E: Engine> Future for Moving<S, E> {
         };
         let stop = ready!(exchange.poll_exchange(cx));
         Poll::Ready(brought_back(self.state.take().unwrap(), stop))
+    }
+}
+
+/// Moves bytes as `Moving` does, of an exchange that stays where it is on the heap.
+#[derive(Drop)]
+pub struct BoxedMoving<S, E> {
+    state: Option<Box<Exchange<S, E>>>,
+}
+
+/// What comes back: the exchange with its stream, its engine and what that put out, as the calls left them, and why.
+#[derive(Drop)]
+pub struct BoxedMoved<S, E> {
+    pub exchange: Box<Exchange<S, E>>,
+    pub stop: Stop,
+}
+
+impl<S: AsyncRead + AsyncWrite, E: Engine> BoxedMoving<S, E> {
+    /// Begins with what is to be written first, and an engine that answered its turn.
+    pub fn new(exchange: Box<Exchange<S, E>>) -> BoxedMoving<S, E>
+        ensures { result.state ≡ Some exchange }
+    {
+        BoxedMoving {
+            state: Some(exchange),
+        }
+    }
+}
+
+impl<S: AsyncRead + AsyncWrite, E: Engine> Future for BoxedMoving<S, E> {
+    type Output = BoxedMoved<S, E>;
+
+    ghost use Rattle.pgw_tokio_moving.specs.Future.{CameTo, moved_of};
+
+    ghost can_poll = { λ f. IsSomeAnd f.state (λ b. HasSoundEngine E.Engine (held_in b.value)) };
+
+    ghost needs = { λ f source. IsSomeAnd f.state
+        (λ b. WaitsFor S.AsyncRead S.AsyncWrite (held_in b.value) source) };
+
+    ghost gives = { λ f moved. IsSomeAnd f.state
+        (λ b. CameTo S.AsyncRead S.AsyncWrite E.Engine (held_in b.value) (moved_of moved)) };
+
+    fn poll(&mut self, cx: &mut Context<'_>) -> Poll<BoxedMoved<S, E>> {
+        let Some(exchange) = &mut self.state else {
+            unreachable!()
+        };
+        let stop = ready!(exchange.poll_exchange(cx));
+        Poll::Ready(BoxedMoved {
+            exchange: self.state.take().unwrap(),
+            stop,
+        })
     }
 }

@@ -1,9 +1,14 @@
+use Rattle.std.proofs.Common.{rules}
 use Rattle.pgw_dialogue.specs.Input.{input_of}
-use Rattle.pgw_client_push.proofs.ServingLaws.{first, went, waits, closed, refused}
+use Rattle.pgw_client_push.proofs.ServingLaws.{first, nothing, went, waits, closed, refused}
 use Rattle.pgw_client_push.proofs.serving.serve.Goals as goal
 
 pub messages-init : goal.messages-init
 messages-init c = first (input_of c.args.input.now) c.args.notes.now c.args.inbox.now c.args.out.now.items
+
+pub returns-then-len-eq0-clause-serves : goal.returns-then-len-eq0-clause-serves
+returns-then-len-eq0-clause-serves c =
+    nothing (input_of c.args.input.now) c.args.notes.now c.args.inbox.now c.args.out.now.items (search rules)
 
 pub returns-in-Ok-More-clause-serves : goal.returns-in-Ok-More-clause-serves
 returns-in-Ok-More-clause-serves c =

@@ -1,7 +1,7 @@
 use Rattle.std.proofs.Common.{◌≡◌, rules}
 use Rattle.futures.specs.declared.task.Poll.TheVariants.{Pending, Ready}
 use Rattle.std.specs.Prelude.{IsSomeAnd}
-use Rattle.pgw_tokio_moving.specs.Future.{CameTo}
+use Rattle.pgw_tokio_moving.specs.Future.{CameTo, moved_of}
 use Rattle.pgw_tokio_moving.specs.Moving.{held_in}
 use Rattle.pgw_tokio.specs.Calling.{client_members}
 use Rattle.pgw_tokio.proofs.AskLaws.{behind_some, gives_by}
@@ -13,10 +13,10 @@ answered_by-requires g c =
     let p = c.poll in
     let moved = c.in-Ready.moved in
     let is : p.result ≡ Ready moved = search rules in
-    behind_some g.S.AsyncRead g.S.AsyncWrite c.args.self.now.moving.state moved
+    behind_some g.S.AsyncRead g.S.AsyncWrite c.args.self.now.moving.state (moved_of moved)
     (on_ready (λ m. IsSomeAnd c.args.self.now.moving.state
-    (λ x. CameTo g.S.AsyncRead g.S.AsyncWrite client_members
-    (held_in x) m)) p.result moved is p.ensures.value)
+    (λ b. CameTo g.S.AsyncRead g.S.AsyncWrite client_members (held_in b.value) (moved_of m)))
+    p.result moved is p.ensures.value)
 
 pub returns-in-Ready-clause-value : goal.returns-in-Ready-clause-value
 returns-in-Ready-clause-value g c =
@@ -26,8 +26,8 @@ returns-in-Ready-clause-value g c =
     let is : p.result ≡ Ready moved = search rules in
     gives_by g.S.AsyncRead g.S.AsyncWrite c.args.self.now moved a.result
     (on_ready (λ m. IsSomeAnd c.args.self.now.moving.state
-    (λ x. CameTo g.S.AsyncRead g.S.AsyncWrite client_members
-    (held_in x) m)) p.result moved is p.ensures.value) a.ensures.stream a.ensures.answers (search rules)
+    (λ b. CameTo g.S.AsyncRead g.S.AsyncWrite client_members (held_in b.value) (moved_of m)))
+    p.result moved is p.ensures.value) a.ensures.stream a.ensures.answers (search rules)
 
 pub returns-in-Pending-clause-same : goal.returns-in-Pending-clause-same
 returns-in-Pending-clause-same g c x later =

@@ -1,4 +1,4 @@
-use Rattle.std.proofs.Common.{◌≡◌, ℕ, List, [], ◌∷◌, Option, Some, None, Result, Ok, sym, subst}
+use Rattle.std.proofs.Common.{◌≡◌, ℕ, List, [], ◌∷◌, Option, Some, None, Result, Ok, refl, sym, subst, ◌∙◌}
 use Rattle.pgw_backend.specs.declared.client_error.PgWireClientError.{PgWireClientError as ClientError}
 use Rattle.pgw_tokio_moving.specs.declared.exchange.Stop.{Stop}
 use Rattle.pgw_tokio_moving.specs.declared.exchange.Stop.TheVariants as stop
@@ -8,8 +8,9 @@ use Rattle.pgw_client_push.specs.Standing.{IsIdle, StandsFor}
 use Rattle.pgw_client_push.specs.Told.{answers_in}
 use Rattle.pgw_session.specs.declared.types.Answer.{Answer}
 use Rattle.pgw_session.specs.Input.{Input}
+use Rattle.pgw_tokio.specs.Faults.{fault_after}
 use Rattle.pgw_tokio.specs.Calling.{HandsOut, RequestAnswers, RequestOver}
-use Rattle.pgw_tokio.proofs.calling.ClientEngine.into_answer.Goals as goal
+use Rattle.pgw_tokio.proofs.calling.ClientEngine.answer.Goals as goal
 
 some_ok : (a b : Answer) → Some a ≡ Some b → ◌≡◌ {A = Result Answer ClientError} (Ok a) (Ok b)
 some_ok a b is = cc
@@ -31,5 +32,10 @@ handed_out c new refusal why a over none idle is last stands =
 pub returns-in-Some-take_answer : goal.returns-in-Some-take_answer
 returns-in-Some-take_answer c =
     let e = c.in-Some-take_answer.ensures in
-    handed_out c.args.self.client c.take_answer.new.self c.args.self.refusal c.args.why.now
-    c.in-Some-take_answer.answer c.in-Over.is c.in-None.is e.idle e.is e.last e.stands
+    let fault = c.args.self.now.fault in
+    record {
+      answers = handed_out c.args.self.now.client c.take_answer.new.self c.args.self.now.refusal c.args.why
+          c.in-Some-take_answer.answer c.in-Over.is (sym c.take.ensures.value ∙ c.in-None.is) e.idle e.is e.last
+          e.stands;
+      fault = subst (λ w. fault ≡ fault_after w fault) (sym c.in-Over.is) refl;
+    }
