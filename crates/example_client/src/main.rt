@@ -35,11 +35,11 @@ const NAME: Option<&str> = Some("herons");
 
 const QUERY: &str = "SELECT n AS number, $2 || n AS label FROM generate_series(1, $1) AS n";
 
-fn prepare(alloc: Global, client: &mut Client) -> Result<()> {
+fn prepare(client: &mut Client) -> Result<()> {
     let types = [PgType::Int4.oid(), PgType::Text.oid()];
     let mut handler = DefaultExtendedQueryHandler::new();
     let mut statements = client.extended_query(&mut handler);
-    statements.prepare(alloc, NAME, QUERY, &types)?;
+    statements.prepare(NAME, QUERY, &types)?;
     Ok(())
 }
 
@@ -51,11 +51,9 @@ fn rows(alloc: Global, client: &mut Client, count: i32, label: &str) -> Result<D
     let values = values.into_values(alloc)?;
     let mut handler = DefaultExtendedQueryHandler::new();
     let mut statements = client.extended_query(&mut handler);
-    statements.bind(alloc, None, NAME, values, Listed::new(alloc))?;
-    let columns = statements
-        .describe(alloc, DescribeTarget::Portal(None))?
-        .fields;
-    match statements.execute(alloc, None, 0)? {
+    statements.bind(None, NAME, values, Listed::new(alloc))?;
+    let columns = statements.describe(DescribeTarget::Portal(None))?.fields;
+    match statements.execute(None, 0)? {
         ExecuteResult::Complete(rows) => Ok(DataRowsReader::new(columns, rows)),
         ExecuteResult::Suspended(_) => bail!("the server holds rows back"),
     }
@@ -86,7 +84,7 @@ fn print_rows(rt: &impl Print, alloc: Global, mut rows: DataRowsReader) -> Resul
 }
 
 fn ask(alloc: Global, client: &mut Client, sql: &str) -> PgWireClientResult<Listed<Response>> {
-    client.simple_query(alloc, DefaultSimpleQueryHandler::new(alloc), sql)
+    client.simple_query(DefaultSimpleQueryHandler::new(alloc), sql)
 }
 
 // Why the server refuses a query, by its SQLSTATE. The client goes on behind such an error.
@@ -108,12 +106,12 @@ fn cancel<R>(rt: &R, alloc: Global, client: &mut Client, sql: &str) -> Result<&'
 where
     R: Threads + Sync + Clock + Eprint + Net<Listener = TcpListener, Stream = TcpStream>,
 {
-    let token = client.cancel_token(alloc)?;
+    let token = client.cancel_token()?;
     let (sent, answer) = thread::join(
         rt,
         move || {
             thread::sleep(rt, Duration::from_secs(1));
-            token.cancel(alloc, &mut SocketDialer::new(rt, Timeouts::NONE))
+            token.cancel(&mut SocketDialer::new(rt, Timeouts::NONE))
         },
         || ask(alloc, client, sql),
     );
@@ -125,7 +123,7 @@ fn use_client<R>(rt: &R, alloc: Global, client: &mut Client) -> Result<()>
 where
     R: Threads + Sync + Clock + Print + Eprint + Net<Listener = TcpListener, Stream = TcpStream>,
 {
-    prepare(alloc, client)?;
+    prepare(client)?;
     print_rows(rt, alloc, rows(alloc, client, 3, "heron ")?)?;
     println!(rt; "refused: {}", refusal(ask(alloc, client, "SELECT 1 / 0"))?)?;
     println!(rt;

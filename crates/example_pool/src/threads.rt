@@ -92,13 +92,13 @@ fn nonce<R: RandomSource>(rt: &R) -> io::Result<[u8; 18]> {
 // Whether no place is free any more: a session was connected for it, or another thread did so.
 fn refill_once<R>(rt: &R, shared: Shared<'_>) -> bool
 where
-    R: Wait + AllocGlobal + RandomSource + Eprint + Net<Listener = TcpListener, Stream = TcpStream>,
+    R: Wait + RandomSource + Eprint + Net<Listener = TcpListener, Stream = TcpStream>,
 {
     let Ok(nonce) = nonce(rt) else { return false };
     let mut dialer = SocketDialer::new(rt, Timeouts::NONE);
     let refilled = shared
         .pool
-        .refill(rt, rt.alloc(), shared.config, nonce, LIMIT, &mut dialer);
+        .refill(rt, shared.config, nonce, LIMIT, &mut dialer);
     match refilled {
         Ok(Refilled::Added | Refilled::Full | Refilled::Displaced) => true,
         Err(_) => false,
@@ -108,12 +108,7 @@ where
 // Connects a session in place of one that was lost, as soon as the server takes it.
 fn refill<R>(rt: &R, shared: Shared<'_>)
 where
-    R: Wait
-        + Clock
-        + AllocGlobal
-        + RandomSource
-        + Eprint
-        + Net<Listener = TcpListener, Stream = TcpStream>,
+    R: Wait + Clock + RandomSource + Eprint + Net<Listener = TcpListener, Stream = TcpStream>,
 {
     for _ in 0..TRIES {
         if refill_once(rt, shared) {
@@ -144,7 +139,7 @@ where
             shared.tally.count_lost();
         }
     }
-    if let GivenBack::Dropped(cause) = shared.pool.give_back(rt, alloc, lease) {
+    if let GivenBack::Dropped(cause) = shared.pool.give_back(rt, lease) {
         drop(cause);
         refill(rt, shared);
     }

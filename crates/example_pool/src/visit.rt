@@ -30,8 +30,8 @@ fn told(error: ErrorResponse) -> ErrorInfo {
 }
 
 // Asks what the server is not to refuse.
-fn ask(alloc: Global, lease: &mut Lease, request: &Request) -> Result<Answer> {
-    match lease.run(alloc, request)? {
+fn ask(lease: &mut Lease, request: &Request) -> Result<Answer> {
+    match lease.run(request)? {
         Answer::Remote(error) => {
             let error = told(error);
             bail!("{}: {}", error.code, error.message)
@@ -53,7 +53,7 @@ fn number(alloc: Global, responses: Listed<Response>) -> Result<i64> {
 
 // How many things of a former lease are there.
 fn look(alloc: Global, lease: &mut Lease) -> Result<i64> {
-    match ask(alloc, lease, &Request::simple(alloc, LOOK)?)? {
+    match ask(lease, &Request::simple(alloc, LOOK)?)? {
         Answer::Responses(responses) => number(alloc, responses),
         _ => bail!("another answer"),
     }
@@ -66,13 +66,9 @@ pub(crate) fn visit(alloc: Global, lease: &mut Lease) -> Result<i64> {
     if found != 0 {
         return Ok(found);
     }
-    ask(alloc, lease, &Request::simple(alloc, TABLE)?)?;
-    ask(alloc, lease, &Request::simple(alloc, SETTING)?)?;
-    ask(
-        alloc,
-        lease,
-        &Request::prepare(alloc, "eggs", "SELECT $1::int")?,
-    )?;
+    ask(lease, &Request::simple(alloc, TABLE)?)?;
+    ask(lease, &Request::simple(alloc, SETTING)?)?;
+    ask(lease, &Request::prepare(alloc, "eggs", "SELECT $1::int")?)?;
     Ok(found)
 }
 
@@ -115,8 +111,8 @@ pub(crate) fn leave_open<R: Wait + Clock>(
         Ok(lease) => lease,
         Err(why) => bail!("{}", refusal(why)),
     };
-    let begun = ask(alloc, &mut lease, &begin);
-    let given_back = pool.give_back(rt, alloc, lease);
+    let begun = ask(&mut lease, &begin);
+    let given_back = pool.give_back(rt, lease);
     begun?;
     end(alloc, given_back)
 }

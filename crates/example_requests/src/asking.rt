@@ -67,7 +67,7 @@ fn ask_simple<L: Link>(
     simple_queries_are_segments();
     simple_queries_follow_one_another();
     let handler = DefaultSimpleQueryHandler::new(alloc);
-    match client.simple_query(alloc, handler, sql) {
+    match client.simple_query(handler, sql) {
         Ok(responses) => Ok(Reply::Responses(responses)),
         Err(error) => replied(error, client.is_broken()),
     }
@@ -93,7 +93,7 @@ fn ask_rows<L: Link>(
     extended_queries_follow_one_another();
     let mut handler = DefaultExtendedQueryHandler::new();
     let mut lent = client.extended_query(&mut handler);
-    match lent.query(alloc, sql, &[], Listed::new(alloc)) {
+    match lent.query(sql, &[], Listed::new(alloc)) {
         Ok(rows) => Ok(Reply::Rows(rows)),
         Err(error) => replied(error, client.is_broken()),
     }

@@ -1,5 +1,4 @@
 //! A client as a value: one call for each request.
-ghost use Rattle.pgw_client.specs.Session.{IoHasCause};
 
 use pgw_client::{
     Config, Dialer, ErrorResponse, ExecuteResult, FromSql, FromSqlText, Link, Listed, Octets,
@@ -44,7 +43,7 @@ fn ask<L: Link>(
     client: &mut PgWireClient<L>,
     sql: &str,
 ) -> PgWireClientResult<Listed<Response>> {
-    client.simple_query(alloc, DefaultSimpleQueryHandler::new(alloc), sql)
+    client.simple_query(DefaultSimpleQueryHandler::new(alloc), sql)
 }
 
 // The server's error to a query, if it has one. The client goes on behind it.
@@ -70,13 +69,13 @@ fn in_parts<L: Link>(
 ) -> PgWireClientResult<Listed<u64>> {
     let mut handler = DefaultExtendedQueryHandler::new();
     let mut statements = client.extended_query(&mut handler);
-    statements.prepare(alloc, None, sql, &[])?;
+    statements.prepare(None, sql, &[])?;
     let mut parameters = Listed::new(alloc);
     parameters.push(Some(Octets::from_slice(alloc, value.as_bytes())?))?;
-    statements.bind(alloc, None, None, parameters, Listed::new(alloc))?;
+    statements.bind(None, None, parameters, Listed::new(alloc))?;
     let mut parts = Listed::new(alloc);
     for _ in 0..u64::MAX {
-        match statements.execute(alloc, None, most)? {
+        match statements.execute(None, most)? {
             ExecuteResult::Suspended(rows) => parts.push(rows.len() as u64)?,
             ExecuteResult::Complete(rows) => {
                 parts.push(rows.len() as u64)?;

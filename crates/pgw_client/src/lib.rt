@@ -1,9 +1,11 @@
-//! A client of a PostgreSQL server.
+//! A whole session in one call (`run_session`), over a link.
 //!
-//! To a caller, `run_session` promises that its report is that of a completed transcript and each answer that of its
-//! own request; the cause of each error and what an error leaves; that bytes which complete a session give its report;
-//! and that nothing is sent before it is due; and that it does what a dialogue does that is given the same bytes. The
-//! types that a caller names are handed on from here.
+//! It logs in, asks each request of a list, and reports what was answered. To a caller it promises that the report is that
+//! of a completed transcript, each answer taken from its own request's segment; what each error means and what it leaves;
+//! that bytes which complete a session give its report; that nothing is sent before it is due; and that it does what a
+//! dialogue does that is given the same bytes.
+//!
+//! The types that a caller names are handed on from here.
 #![tactic(auto)]
 
 pub mod laws;

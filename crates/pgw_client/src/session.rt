@@ -1,7 +1,6 @@
 //! A session over a link.
-ghost use Rattle.std.specs.Prelude.{◌≡◌, ◌<◌, ◌≤◌, [], length, min, IfOk, IfErr, IfSome, IsErrOf, OnOk, OnErr};
+ghost use Rattle.std.specs.Prelude.{◌≡◌, ◌<◌, ◌≤◌, [], length, min, IfOk, IfErr, IfSome, IsErrOf, OnOk};
 ghost use Rattle.std.specs.Io.KnownBytes.{Keeps};
-ghost use Rattle.pgw_link.specs.Tape.{HasTapeCause};
 ghost use Rattle.pgw_link.specs.Foresight.{TapeEnds, Foreseen};
 ghost use Rattle.pgw_link.specs.Sending.{ReadsNothing};
 ghost use Rattle.pgw_session.specs.Demands.{refused_config};

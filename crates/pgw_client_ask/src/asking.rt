@@ -114,7 +114,7 @@ fn ask_simple<L: Link>(
     simple_queries_are_segments();
     simple_queries_follow_one_another();
     let handler = DefaultSimpleQueryHandler::new(alloc);
-    match client.simple_query(alloc, handler, sql) {
+    match client.simple_query(handler, sql) {
         Ok(responses) => Ok(Answer::Responses(responses)),
         Err(error) => answered(error, client.is_broken()),
     }
@@ -151,7 +151,7 @@ fn ask_extended<L: Link>(
     };
     let mut handler = DefaultExtendedQueryHandler::new();
     let mut lent = client.extended_query(&mut handler);
-    match lent.request(alloc, request) {
+    match lent.request(request) {
         Ok((gathered, suspended)) => Ok(given(alloc, request, name, gathered, suspended)),
         Err(error) => answered(error, client.is_broken()),
     }
@@ -159,11 +159,7 @@ fn ask_extended<L: Link>(
 
 /// Asks a request of any kind by the default handlers, and gives the answer of its kind. The
 /// server's error is an answer, where the client can go on behind it.
-pub fn ask<L: Link>(
-    alloc: Global,
-    client: &mut PgWireClient<L>,
-    request: &Request,
-) -> PgWireClientResult<Answer>
+pub fn ask<L: Link>(client: &mut PgWireClient<L>, request: &Request) -> PgWireClientResult<Answer>
     // A client that an earlier error left unusable is asked nothing.
     ensures broken { is_broken client.old ≡ true → (result ≡ Err failure.Broken) ×
         (client.new ≡ client.old) }
@@ -199,6 +195,7 @@ pub fn ask<L: Link>(
     if client.is_broken() {
         return Err(PgWireClientError::Broken);
     }
+    let alloc = client.alloc();
     match request {
         Request::Simple(sql) => ask_simple(alloc, client, sql.as_str()),
         _ => ask_extended(alloc, client, request),

@@ -165,7 +165,7 @@ fn came_name(came: &PgWireClientResult<Answer>) -> (&'static str, &'static str) 
 // Asks a request, and tells what came of it and whether the client can still be used.
 fn asked(alloc: Global, client: &mut Client, kind: Kind) -> Result<String, Fail> {
     let request = request_of(alloc, kind)?;
-    let came = ask(alloc, client, &request);
+    let came = ask(client, &request);
     let (name, count) = came_name(&came);
     drop(came);
     drop(request);

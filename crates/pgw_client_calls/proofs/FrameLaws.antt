@@ -12,7 +12,7 @@ use Rattle.pgw_backend.specs.declared.backend.PgWireBackendMessage.TheVariants a
 use Rattle.pgw_startup.specs.Login.{authentication_of, parameter_status_of, backend_key_data_of, negotiate_of}
 use Rattle.pgw_query.specs.Rows.{ready_for_query_of, command_complete_of, empty_query_response_of, error_response_of, notice_response_of, notification_response_of, parameter_description_of, row_description_of, data_row_of, no_data_of}
 use Rattle.pgw_ext.specs.Rows.{parse_complete_of, bind_complete_of, close_complete_of, portal_suspended_of}
-use Rattle.pgw_copy.specs.Rows.{copy_data_of, copy_done_of, copy_fail_of, copy_in_response_of, copy_out_response_of, copy_both_response_of}
+use Rattle.pgw_copy.specs.Rows.{copy_data_of, copy_done_of, copy_fail_of, copy_response_of}
 use Rattle.pgw_backend.specs.Backend.{backend_by, backend_typed_front, backend_front}
 use Rattle.pgw_backend.specs.Front.{front, front_of, typed_phase, More}
 use Rattle.pgw_client_calls.specs.Reading.{awaited}
@@ -91,9 +91,9 @@ by_waits byte ctx =
     (choice (eqb byte 100) _ _ (one backend.CopyData 100 1073741822 (copy_data_of ctx))
     (choice (eqb byte 99) _ _ (one backend.CopyDone 99 10000 (copy_done_of ctx))
     (choice (eqb byte 102) _ _ (one backend.CopyFail 102 10000 (copy_fail_of ctx))
-    (choice (eqb byte 71) _ _ (one backend.CopyInResponse 71 30000 (copy_in_response_of ctx))
-    (choice (eqb byte 72) _ _ (one backend.CopyOutResponse 72 30000 (copy_out_response_of ctx))
-    (choice (eqb byte 87) _ _ (one backend.CopyBothResponse 87 30000 (copy_both_response_of ctx))
+    (choice (eqb byte 71) _ _ (one backend.CopyInResponse 71 30000 (copy_response_of 71 ctx))
+    (choice (eqb byte 72) _ _ (one backend.CopyOutResponse 72 30000 (copy_response_of 72 ctx))
+    (choice (eqb byte 87) _ _ (one backend.CopyBothResponse 87 30000 (copy_response_of 87 ctx))
     (λ bytes e. absurd cc))))))))))))))))))))))))
 
 short_waits : (a : List ℕ) → length a < 2 → length a < awaited a

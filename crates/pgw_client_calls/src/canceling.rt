@@ -32,6 +32,7 @@ pub struct CancelToken {
     pub address: Address,
     pub process_id: i32,
     pub secret_key: SecretKey,
+    pub alloc: Global,
 }
 
 // Writes some bytes over a link of its own, which is closed behind that.
@@ -77,7 +78,7 @@ impl CancelToken {
 
     /// Asks the server to cancel what it does for the client: over a link of its own, which is closed
     /// behind that. It dials once at most.
-    pub fn cancel<D: Dialer>(&self, alloc: Global, dialer: &mut D) -> PgWireClientResult<()>
+    pub fn cancel<D: Dialer>(&self, dialer: &mut D) -> PgWireClientResult<()>
         // One request was written to a link to the address and flushed, and no call failed; or why not.
         ensures cancels { Cancels (dialer.new ≡ dialer.old) D.foretells self.now.address
             (cancel_bytes self.now.process_id self.now.secret_key)
@@ -86,7 +87,7 @@ impl CancelToken {
         // IoError comes only where the dialer's count rose, and Broken never.
         ensures cause { HasCause (D.faults dialer.old) (D.faults dialer.new) false result }
     {
-        let mut out = BytesMut::new(alloc);
+        let mut out = BytesMut::new(self.alloc);
         match self.put(&mut out) {
             Ok(()) => send_once(out.as_slice(), &self.address, dialer),
             Err(error) => Err(error),
@@ -96,19 +97,20 @@ impl CancelToken {
 
 impl Desk {
     // What cancels what the server does for the client that knows this.
-    fn token(&self, alloc: Global) -> PgWireClientResult<CancelToken>
+    fn token(&self) -> PgWireClientResult<CancelToken>
         ensures token { IfOk result (IsTokenOf (client_of self.now)) }
         ensures lacks { IfErr result (LacksAddress self.now.config) }
     {
-        let address = match address_in(alloc, &self.config) {
+        let address = match address_in(self.alloc, &self.config) {
             Ok(address) => address,
             Err(error) => return Err(error),
         };
-        match own_key(alloc, &self.secret_key) {
+        match own_key(self.alloc, &self.secret_key) {
             Ok(secret_key) => Ok(CancelToken {
                 address,
                 process_id: self.process_id,
                 secret_key,
+                alloc: self.alloc,
             }),
             Err(_) => Err(PgWireClientError::OutOfMemory),
         }
@@ -117,7 +119,7 @@ impl Desk {
 
 impl<L: Link> PgWireClient<L> {
     /// What cancels what the server does for this client, to be used from anywhere.
-    pub fn cancel_token(&self, alloc: Global) -> PgWireClientResult<CancelToken>
+    pub fn cancel_token(&self) -> PgWireClientResult<CancelToken>
         ensures broken { is_broken self.now ≡ true → result ≡ Err client.Broken }
         // It is this client's.
         ensures token { IfOk result (IsTokenOf (known_by self.now)) }
@@ -128,12 +130,12 @@ impl<L: Link> PgWireClient<L> {
         if self.connection.desk.broken {
             return Err(PgWireClientError::Broken);
         }
-        self.connection.desk.token(alloc)
+        self.connection.desk.token()
     }
 
     /// Asks the server to cancel what it does for this client, by the client's token. The client's own
     /// link stays as it is.
-    pub fn cancel<D: Dialer>(&self, alloc: Global, dialer: &mut D) -> PgWireClientResult<()>
+    pub fn cancel<D: Dialer>(&self, dialer: &mut D) -> PgWireClientResult<()>
         ensures broken { is_broken self.now ≡ true → (result ≡ Err client.Broken) ×
             (dialer.new ≡ dialer.old) }
         // It is what the token's cancel does and answers; or there is no token.
@@ -145,8 +147,8 @@ impl<L: Link> PgWireClient<L> {
         ensures cause { HasCause (D.faults dialer.old) (D.faults dialer.new) (is_broken self.now)
             result }
     {
-        match self.cancel_token(alloc) {
-            Ok(token) => token.cancel(alloc, dialer),
+        match self.cancel_token() {
+            Ok(token) => token.cancel(dialer),
             Err(error) => Err(error),
         }
     }

@@ -1,5 +1,5 @@
 //! A client over a link.
-ghost use Rattle.std.specs.Prelude.{◌≡◌, ℕ, false, length};
+ghost use Rattle.std.specs.Prelude.{◌≡◌, false, length};
 ghost use Rattle.pgw_client_calls.specs.Calls.{CallFrame, KeptRest, sight_in, faults_in, own_in, rest_in};
 
 use crate::connection::Connection;
@@ -12,6 +12,7 @@ use pgw_types::memory::OutOfMemory;
 use pgw_types::text::Text;
 use pgw_wire::params::Params;
 use pgw_wire::secret_key::SecretKey;
+use std::alloc::Global;
 use std::marker::Model;
 
 /// A client over a link. It reads at most `limit` bytes. Its contracts see its link, what it knows of
@@ -55,6 +56,11 @@ impl<L: Link> PgWireClient<L> {
         ensures { result.now ≡ self.now.link }
     {
         &self.connection.link
+    }
+
+    /// The allocator that it was made with, by which its calls take memory.
+    pub fn alloc(&self) -> Global {
+        self.connection.desk.alloc
     }
 
     /// How many bytes were read and not taken yet. It takes no memory.

@@ -1,5 +1,5 @@
 //! Connecting.
-ghost use Rattle.std.specs.Prelude.{◌≡◌, ◌≤◌, ◌<◌, ◌+◌, ℕ, List, Option, [], length, true, false, Ok, Err, IfOk, IfErr, OnOk, OnErr};
+ghost use Rattle.std.specs.Prelude.{◌≡◌, ◌≤◌, ◌<◌, ◌+◌, ℕ, List, Option, [], length, true, false, Ok, Err, IfOk, IfErr, OnOk};
 ghost use Rattle.pgw_backend.specs.declared.client_error.PgWireClientError.TheVariants as client;
 ghost use Rattle.pgw_config.specs.Address.{address_of};
 ghost use Rattle.pgw_session.specs.Demands.{refused_config};
@@ -115,7 +115,7 @@ impl<L: Link> Connection<L> {
             Ok(information) => information,
             Err(error) => return Err(error),
         };
-        match self.desk.take_in(alloc, information) {
+        match self.desk.take_in(information) {
             Ok(()) => Ok(()),
             Err(_) => Err(PgWireClientError::OutOfMemory),
         }

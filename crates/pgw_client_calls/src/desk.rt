@@ -29,6 +29,7 @@ use std::alloc::Global;
 /// What a client knows of its connection, and where its handlers put what they send. They never see its link.
 #[derive(Drop)]
 pub struct Desk {
+    pub(crate) alloc: Global,
     pub(crate) config: Config,
     pub(crate) parameters: Params,
     pub(crate) process_id: i32,
@@ -58,6 +59,7 @@ impl Desk {
     {
         let protocol_version = config.get_protocol_version();
         Desk {
+            alloc,
             config,
             parameters: Params::new(alloc),
             process_id: -1,
@@ -80,11 +82,7 @@ impl Desk {
     }
 
     /// Takes in what the server told of itself. The key is a copy, which keeps no larger block alive.
-    pub(crate) fn take_in(
-        &mut self,
-        alloc: Global,
-        information: ServerInformation,
-    ) -> Result<(), OutOfMemory>
+    pub(crate) fn take_in(&mut self, information: ServerInformation) -> Result<(), OutOfMemory>
         ensures ok { OnOk result (client_of self.new
             ≡ with_information information (client_of self.old)) }
         ensures broken { self.new.broken ≡ self.old.broken }
@@ -96,7 +94,7 @@ impl Desk {
             secret_key,
         } = information;
         insert_all(&mut self.parameters, &parameters)?;
-        let secret_key = own_key(alloc, &secret_key)?;
+        let secret_key = own_key(self.alloc, &secret_key)?;
         self.process_id = process_id;
         self.secret_key = secret_key;
         Ok(())

@@ -62,7 +62,6 @@ impl<'a, L: Link, H: ExtendedQueryHandler> ExtendedQueryClient<'a, L, H> {
     /// was suspended.
     pub fn request(
         &mut self,
-        alloc: Global,
         request: &Request,
     ) -> PgWireClientResult<(Gathered<H::Responses>, bool)>
         requires { (sql : List ℕ) → request.now ≡ kind.Simple sql → ⊥ }
@@ -73,6 +72,7 @@ impl<'a, L: Link, H: ExtendedQueryHandler> ExtendedQueryClient<'a, L, H> {
         ensures same_client { self.new.client.ghost_name ≡ self.old.client.ghost_name }
         ensures same_handler { self.new.handler.ghost_name ≡ self.old.handler.ghost_name }
     {
+        let alloc = self.client.alloc();
         self.client.ask_by(alloc, self.handler, request)
     }
 
@@ -92,7 +92,6 @@ impl<'a, L: Link, H: ExtendedQueryHandler> ExtendedQueryClient<'a, L, H> {
     /// Prepares a statement, and tells the types of its parameters.
     pub fn prepare(
         &mut self,
-        alloc: Global,
         name: Option<&str>,
         query: &str,
         param_types: &[u32],
@@ -104,6 +103,7 @@ impl<'a, L: Link, H: ExtendedQueryHandler> ExtendedQueryClient<'a, L, H> {
         ensures same_client { self.new.client.ghost_name ≡ self.old.client.ghost_name }
         ensures same_handler { self.new.handler.ghost_name ≡ self.old.handler.ghost_name }
     {
+        let alloc = self.client.alloc();
         let shown = match requests::named(alloc, name) {
             Ok(shown) => shown,
             Err(_) => return Err(self.starve()),
@@ -120,7 +120,6 @@ impl<'a, L: Link, H: ExtendedQueryHandler> ExtendedQueryClient<'a, L, H> {
     /// Binds parameters, as text, to a statement. An empty list of formats asks for a result of texts.
     pub fn bind(
         &mut self,
-        alloc: Global,
         portal: Option<&str>,
         statement: Option<&str>,
         params: Listed<Option<Octets>>,
@@ -134,6 +133,7 @@ impl<'a, L: Link, H: ExtendedQueryHandler> ExtendedQueryClient<'a, L, H> {
         ensures same_client { self.new.client.ghost_name ≡ self.old.client.ghost_name }
         ensures same_handler { self.new.handler.ghost_name ≡ self.old.handler.ghost_name }
     {
+        let alloc = self.client.alloc();
         let request = requests::bind(alloc, portal, statement, params, result_formats);
         match self.ask(alloc, request) {
             Ok(_) => Ok(()),
@@ -144,7 +144,6 @@ impl<'a, L: Link, H: ExtendedQueryHandler> ExtendedQueryClient<'a, L, H> {
     /// Runs a portal up to so many rows (0: all), and answers what the handler makes of each.
     pub fn execute(
         &mut self,
-        alloc: Global,
         portal: Option<&str>,
         max_rows: i32,
     ) -> PgWireClientResult<ExecuteResult<H::Responses>>
@@ -155,6 +154,7 @@ impl<'a, L: Link, H: ExtendedQueryHandler> ExtendedQueryClient<'a, L, H> {
         ensures same_client { self.new.client.ghost_name ≡ self.old.client.ghost_name }
         ensures same_handler { self.new.handler.ghost_name ≡ self.old.handler.ghost_name }
     {
+        let alloc = self.client.alloc();
         match self.ask(alloc, requests::execute(alloc, portal, max_rows)) {
             Ok((gathered, suspended)) => Ok(executed(gathered, suspended)),
             Err(error) => Err(error),
@@ -162,11 +162,7 @@ impl<'a, L: Link, H: ExtendedQueryHandler> ExtendedQueryClient<'a, L, H> {
     }
 
     /// Tells the parameters of a statement, and the columns of it or of a portal.
-    pub fn describe(
-        &mut self,
-        alloc: Global,
-        target: DescribeTarget<'_>,
-    ) -> PgWireClientResult<DescribeResponse>
+    pub fn describe(&mut self, target: DescribeTarget<'_>) -> PgWireClientResult<DescribeResponse>
         ensures asks { AsksByClient L.foretells L.left L.tape L.faults H.means
             H.Responses.listed (kind.Describe (target_of target.entry)) description_of
             self.old.handler.now
@@ -174,6 +170,7 @@ impl<'a, L: Link, H: ExtendedQueryHandler> ExtendedQueryClient<'a, L, H> {
         ensures same_client { self.new.client.ghost_name ≡ self.old.client.ghost_name }
         ensures same_handler { self.new.handler.ghost_name ≡ self.old.handler.ghost_name }
     {
+        let alloc = self.client.alloc();
         match self.ask(alloc, requests::describe(alloc, target)) {
             Ok((gathered, _)) => Ok(DescribeResponse {
                 param_types: gathered.types,
@@ -184,13 +181,14 @@ impl<'a, L: Link, H: ExtendedQueryHandler> ExtendedQueryClient<'a, L, H> {
     }
 
     /// Closes a statement or a portal.
-    pub fn close(&mut self, alloc: Global, target: DescribeTarget<'_>) -> PgWireClientResult<()>
+    pub fn close(&mut self, target: DescribeTarget<'_>) -> PgWireClientResult<()>
         ensures asks { AsksByClient L.foretells L.left L.tape L.faults H.means
             H.Responses.listed (kind.Close (target_of target.entry)) no_answer self.old.handler.now
             self.new.handler.now self.old.client.now self.new.client.now result }
         ensures same_client { self.new.client.ghost_name ≡ self.old.client.ghost_name }
         ensures same_handler { self.new.handler.ghost_name ≡ self.old.handler.ghost_name }
     {
+        let alloc = self.client.alloc();
         match self.ask(alloc, requests::close(alloc, target)) {
             Ok(_) => Ok(()),
             Err(error) => Err(error),
@@ -200,7 +198,6 @@ impl<'a, L: Link, H: ExtendedQueryHandler> ExtendedQueryClient<'a, L, H> {
     /// Prepares, binds and runs a query without names, and answers what the handler makes of each row.
     pub fn query(
         &mut self,
-        alloc: Global,
         sql: &str,
         param_types: &[u32],
         params: Listed<Option<Octets>>,
@@ -212,6 +209,7 @@ impl<'a, L: Link, H: ExtendedQueryHandler> ExtendedQueryClient<'a, L, H> {
         ensures same_client { self.new.client.ghost_name ≡ self.old.client.ghost_name }
         ensures same_handler { self.new.handler.ghost_name ≡ self.old.handler.ghost_name }
     {
+        let alloc = self.client.alloc();
         match self.ask(alloc, requests::query(alloc, sql, param_types, params)) {
             Ok((gathered, _)) => Ok(gathered.responses),
             Err(error) => Err(error),

@@ -278,12 +278,10 @@ impl<L: Link> PgWireClient<L> {
 
     /// Hands out the message at the buffer's front, or Pending where none is whole. It reads nothing from the link, and
     /// takes no memory where the buffer is empty.
-    pub fn poll_next(
-        &mut self,
-        alloc: Global,
-    ) -> PgWireClientResult<ReadyState<PgWireBackendMessage>>
+    pub fn poll_next(&mut self) -> PgWireClientResult<ReadyState<PgWireBackendMessage>>
         ensures { Polls self.old self.new result }
     {
+        let alloc = self.connection.desk.alloc;
         self.connection.poll_next(alloc)
     }
 }

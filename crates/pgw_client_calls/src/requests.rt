@@ -1,5 +1,5 @@
 //! The requests of extended queries.
-ghost use Rattle.std.specs.Prelude.{◌≡◌, [], IfOk};
+ghost use Rattle.std.specs.Prelude.{◌≡◌, IfOk};
 ghost use Rattle.std.specs.Option.{option_copied};
 ghost use Rattle.pgw_session.specs.declared.types.Request.TheVariants as request;
 ghost use Rattle.pgw_client_calls.specs.Targets.{target_of};

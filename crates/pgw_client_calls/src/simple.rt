@@ -178,13 +178,13 @@ impl<L: Link> PgWireClient<L> {
     /// Asks a simple query, and answers what the handler makes of the messages.
     pub fn simple_query<H: SimpleQueryHandler + Drop>(
         &mut self,
-        alloc: Global,
         handler: H,
         query: &str,
     ) -> PgWireClientResult<Listed<H::QueryResponse>>
         ensures { Queries L.foretells L.left L.tape L.faults H.means handler query.now
             self.old self.new result }
     {
+        let alloc = self.connection.desk.alloc;
         self.connection.simple_query(alloc, handler, query)
     }
 }

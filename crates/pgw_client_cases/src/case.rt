@@ -1,5 +1,6 @@
 //! What stands before a case's calls.
-ghost use Rattle.std.specs.Prelude.{◌<◌};
+ghost use Rattle.std.specs.Prelude.{◌<◌, IfOk};
+ghost use Rattle.pgw_link.specs.MemoryLinks.{IsUnused};
 
 use crate::link::CaseDialer;
 use crate::pieces::Pieces;
@@ -64,20 +65,22 @@ impl Case {
         match key {
             "limit" => self.limit = value.parse::<u64>()?,
             "cut" => self.cut = Some(value.parse::<NonZeroUsize>()?),
-            "fail-read" => self.fail_reads.push(value.parse::<u64>()?)?,
-            "fail-write" => self.fail_writes.push(value.parse::<u64>()?)?,
-            "fail-flush" => self.fail_flush = value.parse::<u64>()?,
-            "fail-dial" => self.fail_dials.push(value.parse::<u64>()?)?,
             "hash" => self.hash = hex::decode(alloc, value)?,
-            "fail-second-write" => self.fail_second_writes.push(value.parse::<u64>()?)?,
-            _ => {
-                self.config.push_str(" ")?;
-                self.config.push_str(key)?;
-                self.config.push_str("=")?;
-                self.config.push_str(value)?;
-            }
+            "fail-flush" => self.fail_flush = value.parse::<u64>()?,
+            _ => self.add(key, value)?,
         }
         Ok(())
+    }
+
+    // Adds a call that fails, or else a setting of the configuration.
+    fn add(&mut self, key: &str, value: &str) -> Result<()> {
+        match key {
+            "fail-read" => add_number(&mut self.fail_reads, value),
+            "fail-write" => add_number(&mut self.fail_writes, value),
+            "fail-dial" => add_number(&mut self.fail_dials, value),
+            "fail-second-write" => add_number(&mut self.fail_second_writes, value),
+            _ => add_setting(&mut self.config, key, value),
+        }
     }
 
     /// What a client is configured by, with the certificate's hash where one is set.
@@ -97,27 +100,49 @@ impl Case {
         Ok(CaseDialer::new(self.links(alloc)?, self.fail_flush))
     }
 
-    fn links(&self, alloc: Global) -> Result<MemoryDialer> {
-        let mut links = Listed::new(alloc);
+    // A link to the server.
+    fn link(&self, alloc: Global) -> Result<MemoryLink>
+        ensures { IfOk result IsUnused }
+    {
         let server = Octets::from_slice(alloc, &self.server)?;
-        let cut = cut_of(self.cut);
-        links.push(MemoryLink::new(
-            alloc,
-            server,
-            cut,
-            numbers(alloc, &self.fail_reads)?,
-            numbers(alloc, &self.fail_writes)?,
-        ))?;
+        let fail_reads = numbers(alloc, &self.fail_reads)?;
+        let fail_writes = numbers(alloc, &self.fail_writes)?;
+        Ok(MemoryLink::new(alloc, server, cut_of(self.cut), fail_reads, fail_writes))
+    }
+
+    // A link to a server that says nothing.
+    fn silent_link(&self, alloc: Global) -> Result<MemoryLink>
+        ensures { IfOk result IsUnused }
+    {
         let silent = Octets::from_slice(alloc, &[])?;
-        links.push(MemoryLink::new(
+        let fail_writes = numbers(alloc, &self.fail_second_writes)?;
+        Ok(MemoryLink::new(
             alloc,
             silent,
-            cut,
+            cut_of(self.cut),
             Listed::new(alloc),
-            numbers(alloc, &self.fail_second_writes)?,
-        ))?;
+            fail_writes,
+        ))
+    }
+
+    fn links(&self, alloc: Global) -> Result<MemoryDialer> {
+        let mut links = Listed::new(alloc);
+        links.push(self.link(alloc)?)?;
+        links.push(self.silent_link(alloc)?)?;
         Ok(MemoryDialer::new(links, numbers(alloc, &self.fail_dials)?))
     }
+}
+
+fn add_number(numbers: &mut Vec<u64>, value: &str) -> Result<()> {
+    numbers.push(value.parse::<u64>()?)?;
+    Ok(())
+}
+
+fn add_setting(config: &mut String, key: &str, value: &str) -> Result<()> {
+    for part in [" ", key, "=", value] {
+        config.push_str(part)?;
+    }
+    Ok(())
 }
 
 fn cut_of(cut: Option<NonZeroUsize>) -> usize

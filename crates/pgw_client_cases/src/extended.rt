@@ -25,7 +25,7 @@ fn target_of<'a>(kind: &str, name: &'a str) -> Result<DescribeTarget<'a>> {
 
 fn prepare(alloc: Global, lent: &mut Lent<'_>, text: &str) -> Result<String> {
     let (name, sql) = text.split_once(' ').context("a name and SQL")?;
-    told(alloc, lent.prepare(alloc, name_of(name), sql, &[23]))
+    told(alloc, lent.prepare(name_of(name), sql, &[23]))
 }
 
 // One parameter, as text.
@@ -41,7 +41,6 @@ fn bind(alloc: Global, lent: &mut Lent<'_>, text: &str) -> Result<String> {
         .context("a portal, a statement and a value")?;
     let (statement, value) = rest.split_once(' ').context("a statement and a value")?;
     let bound = lent.bind(
-        alloc,
         name_of(portal),
         name_of(statement),
         parameters(alloc, value)?,
@@ -53,24 +52,24 @@ fn bind(alloc: Global, lent: &mut Lent<'_>, text: &str) -> Result<String> {
 fn execute(alloc: Global, lent: &mut Lent<'_>, text: &str) -> Result<String> {
     let (portal, most) = text.split_once(' ').context("a portal and a number")?;
     let most = most.parse::<i32>()?;
-    told(alloc, lent.execute(alloc, name_of(portal), most))
+    told(alloc, lent.execute(name_of(portal), most))
 }
 
 fn describe(alloc: Global, lent: &mut Lent<'_>, text: &str) -> Result<String> {
     let (kind, name) = text.split_once(' ').context("a kind and a name")?;
     let target = target_of(kind, name)?;
-    told(alloc, lent.describe(alloc, target))
+    told(alloc, lent.describe(target))
 }
 
 fn close(alloc: Global, lent: &mut Lent<'_>, text: &str) -> Result<String> {
     let (kind, name) = text.split_once(' ').context("a kind and a name")?;
     let target = target_of(kind, name)?;
-    said(alloc, lent.close(alloc, target), "closed")
+    said(alloc, lent.close(target), "closed")
 }
 
 fn query(alloc: Global, lent: &mut Lent<'_>, sql: &str) -> Result<String> {
     let parameters = parameters(alloc, "1")?;
-    told(alloc, lent.query(alloc, sql, &[23], parameters))
+    told(alloc, lent.query(sql, &[23], parameters))
 }
 
 /// An extended call on a client, and what came of it.

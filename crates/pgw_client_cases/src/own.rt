@@ -12,7 +12,7 @@ type Client = PgWireClient<CaseLink>;
 
 /// Polls once.
 pub fn poll(alloc: Global, client: &mut Client) -> Result<String> {
-    told(alloc, client.poll_next(alloc))
+    told(alloc, client.poll_next())
 }
 
 /// Reads once.

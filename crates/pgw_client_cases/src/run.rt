@@ -17,36 +17,32 @@ type Client = PgWireClient<CaseLink>;
 
 fn simple(alloc: Global, client: &mut Client, sql: &str) -> Result<String> {
     let handler = DefaultSimpleQueryHandler::new(alloc);
-    told(alloc, client.simple_query(alloc, handler, sql))
+    told(alloc, client.simple_query(handler, sql))
 }
 
 // A handler of a caller's own, which counts rows.
 fn count(alloc: Global, client: &mut Client, sql: &str) -> Result<String> {
-    told(alloc, client.simple_query(alloc, RowCounter::new(), sql))
+    told(alloc, client.simple_query(RowCounter::new(), sql))
 }
 
 // A handler of a caller's own, which keeps notices and notifications.
 fn listen(alloc: Global, client: &mut Client, sql: &str) -> Result<String> {
-    told(alloc, client.simple_query(alloc, Listener::new(alloc), sql))
+    told(alloc, client.simple_query(Listener::new(alloc), sql))
 }
 
 // Listens, by an extended query.
 fn listen_extended(alloc: Global, client: &mut Client, sql: &str) -> Result<String> {
     let mut listener = Listener::new(alloc);
     let mut lent = client.extended_query(&mut listener);
-    let rows = told(alloc, lent.query(alloc, sql, &[], Listed::new(alloc)))?;
+    let rows = told(alloc, lent.query(sql, &[], Listed::new(alloc)))?;
     let heard = listener.heard.shown(alloc)?;
     Ok(format!(in alloc; "{rows}, {heard}")?)
 }
 
 // Cancels by a token.
-fn cancel_by_token(
-    alloc: Global,
-    client: &Client,
-    dialer: &mut CaseDialer,
-) -> Result<PgWireClientResult<()>> {
-    match client.cancel_token(alloc) {
-        Ok(token) => Ok(token.cancel(alloc, dialer)),
+fn cancel_by_token(client: &Client, dialer: &mut CaseDialer) -> Result<PgWireClientResult<()>> {
+    match client.cancel_token() {
+        Ok(token) => Ok(token.cancel(dialer)),
         Err(error) => Ok(Err(error)),
     }
 }
@@ -80,8 +76,8 @@ fn call(alloc: Global, client: &mut Client, dialer: &mut CaseDialer, text: &str)
     match word {
         "simple" => simple(alloc, client, rest),
         "count" => count(alloc, client, rest),
-        "cancel" => said(alloc, client.cancel(alloc, dialer), "ok"),
-        "token" => said(alloc, cancel_by_token(alloc, client, dialer)?, "ok"),
+        "cancel" => said(alloc, client.cancel(dialer), "ok"),
+        "token" => said(alloc, cancel_by_token(client, dialer)?, "ok"),
         "closed" => closed(alloc, dialer),
         _ => quiet(alloc, client, word, rest),
     }

@@ -16,6 +16,7 @@ use Rattle.pgw_session.specs.declared.stage.Kind.{Kind}
 use Rattle.pgw_session.specs.declared.stage.Role.TheVariants.{Taken}
 use Rattle.pgw_session.specs.Events.{Event, Got}
 use Rattle.pgw_session.specs.Requests.{kind_of, passes_over, role, behind_error}
+use Rattle.pgw_session.proofs.Grammar.{taken_more}
 use Rattle.pgw_session.specs.Segments.{IsAnswer, IsQuiet, IsPassedOver, is_ready, is_other, sends}
 use Rattle.pgw_session.specs.Answers.{tally_at, tally_after, answer_by}
 use Rattle.pgw_handlers.specs.Client.{Client}
@@ -159,20 +160,6 @@ within q rows t = record {
   starves = λ sent. (sent ≡ []) ⊎ (encodings (sends (behind_error (kind_of q))) ≡ Ok sent);
 }
 
-answer_more : (k : Kind) (rows next : Bool) (m : Backend) (es : List Event) → role k rows m ≡ Taken next
-    → IsAnswer k next es → IsAnswer k rows (Got m ∷ es)
-answer_more k rows next m es is r =
-    record {
-      ms = m ∷ r.ms;
-      behind = r.behind;
-      last = r.last;
-      rest = r.rest;
-      are = ap
-          (λ (l : List Event). Got m ∷ l) r.are;
-      taken = (next, is, r.taken);
-      ends = r.ends;
-    }
-
 misplaced_more : (k : Kind) (rows next : Bool) (m x : Backend) (es : List Event) → role k rows m ≡ Taken next
     → IsMisplaced k next x es → IsMisplaced k rows x (Got m ∷ es)
 misplaced_more k rows next m x es is r =
@@ -217,7 +204,7 @@ pub taken_onto : (q : Request) (rows next : Bool) (t : Tally) (c d : Client) (m 
     → Onto (within q next (tally_after t m)) (within q rows t) d c left bytes []
 taken_onto q rows next t c d m bytes left is whole behind = record {
   before = λ es. Got m ∷ es;
-  answered = λ a es x. (answer_more (kind_of q) rows next m es is x.0, x.1);
+  answered = λ a es x. (taken_more (kind_of q) rows next m es is x.0, x.1);
   passed = λ x es y. misplaced_more (kind_of q) rows next m x es is y;
   stops = λ e es y. front_more (kind_of q) rows next m e es is y;
   meets = λ x es y. open_more (kind_of q) rows next m x es is y;

@@ -83,7 +83,6 @@ fn close<D: Dialer>(client: PgWireClient<D::Link>, dialer: &mut D)
 
 // Keeps a client whose server will do, and closes any other.
 fn keep<D: Dialer, E: Sink>(
-    alloc: Global,
     wanted: Option<bool>,
     mut client: PgWireClient<D::Link>,
     dialer: &mut D,
@@ -93,7 +92,7 @@ fn keep<D: Dialer, E: Sink>(
         D.Link.foretells D.Link.left D.Link.tape D.Link.faults)
         wanted client dialer.old dialer.new result }
 {
-    match look_at(alloc, wanted, &mut client) {
+    match look_at(wanted, &mut client) {
         Fit::Fits => Ok(client),
         Fit::Unfit => {
             let _ = write_whole(errors, UNFIT.as_bytes());
@@ -123,7 +122,7 @@ fn try_place<D: Dialer, E: Sink, T: Clock>(
     match log_in(alloc, place, dialer, clock, notes) {
         Ok(client) => {
             let wanted = wanted_of(place.config.get_target_session_attrs());
-            keep(alloc, wanted, client, dialer, errors)
+            keep(wanted, client, dialer, errors)
         }
         Err(error) => {
             tell(alloc, &error, errors);

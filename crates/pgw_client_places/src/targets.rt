@@ -11,7 +11,6 @@ use pgw_link::link::Link;
 use pgw_query::data_rows::DataRows;
 use pgw_session::types::Response;
 use pgw_types::listed::Listed;
-use std::alloc::Global;
 
 // What is asked.
 const QUESTION: &str = "SHOW transaction_read_only";
@@ -103,19 +102,19 @@ fn fit_of(read_only: bool, answer: PgWireClientResult<Listed<Response>>) -> Fit
 }
 
 // Asks a server whether it is read-only.
-fn ask<L: Link>(alloc: Global, client: &mut PgWireClient<L>) -> PgWireClientResult<Listed<Response>>
+fn ask<L: Link>(client: &mut PgWireClient<L>) -> PgWireClientResult<Listed<Response>>
     ensures { AsksPlace L.foretells L.left L.tape L.faults client.old client.new result }
 {
-    let handler = DefaultSimpleQueryHandler::new(alloc);
-    client.simple_query(alloc, handler, QUESTION)
+    let handler = DefaultSimpleQueryHandler::new(client.alloc());
+    client.simple_query(handler, QUESTION)
 }
 
 /// Whether a client's server will do. It is asked where not any will.
-pub fn look_at<L: Link>(alloc: Global, wanted: Option<bool>, client: &mut PgWireClient<L>) -> Fit
+pub fn look_at<L: Link>(wanted: Option<bool>, client: &mut PgWireClient<L>) -> Fit
     ensures { FitsBy L.foretells L.left L.tape L.faults wanted client.old client.new result }
 {
     match wanted {
-        Some(read_only) => fit_of(read_only, ask(alloc, client)),
+        Some(read_only) => fit_of(read_only, ask(client)),
         None => Fit::Fits,
     }
 }

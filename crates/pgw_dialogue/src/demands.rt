@@ -1,5 +1,4 @@
 //! What a configuration demands that this client can't do.
-ghost use Rattle.std.specs.Prelude.{◌≡◌, IfErr};
 ghost use Rattle.pgw_session.specs.Demands.{refused_config};
 ghost use Rattle.pgw_dialogue.specs.Demands.{IsInvalidConfig, ChecksDemand};
 

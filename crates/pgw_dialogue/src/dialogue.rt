@@ -1,5 +1,5 @@
 //! A session whose bytes the caller moves.
-ghost use Rattle.std.specs.Prelude.{◌≡◌, ◌<◌, ℕ, List, ◌++◌, ◌⊎◌, true, Some, Ok, Err, IfSome, OnOk};
+ghost use Rattle.std.specs.Prelude.{◌≡◌, ◌<◌, ℕ, List, ◌⊎◌, true, Ok, Err, IfSome};
 ghost use Rattle.pgw_backend.specs.declared.client_error.PgWireClientError.TheVariants as client;
 ghost use Rattle.pgw_dialogue.specs.Demands.{RefusesKey};
 ghost use Rattle.pgw_session.specs.Input.{input_with, Input as TheInput};

@@ -18,7 +18,7 @@ use pgw_wire::header::whole_end;
 use std::alloc::Global;
 use std::marker::Model;
 
-/// A message of more bytes shares its block with no other.
+// A message of more bytes shares its block with no other.
 const LARGE: usize = 16384;
 
 /// The bytes that were read and not taken yet: a front that stays as it is, so that messages keep

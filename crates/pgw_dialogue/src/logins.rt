@@ -1,6 +1,5 @@
 //! What a client sends to log in.
-ghost use Rattle.std.specs.Prelude.{◌≡◌, codes, Some, None, true, false, is_some, option_map, unwrap_or, IfOk, IfSome, IfNone};
-ghost use Rattle.std.specs.List.{list_any};
+ghost use Rattle.std.specs.Prelude.{◌≡◌, codes, Some, None, true, false, is_some, IfOk, IfSome, IfNone};
 ghost use Rattle.std.specs.Str.{bytes_eq, is_utf8};
 ghost use Rattle.pgw_hash.specs.Saslprep.{saslprep};
 ghost use Rattle.pgw_wire.specs.Reading.{lossy};

@@ -1,5 +1,5 @@
 //! What each request sends.
-ghost use Rattle.std.specs.Prelude.{◌≡◌, [], ◌∷◌, pos, None, IfErr, IfOk};
+ghost use Rattle.std.specs.Prelude.{◌≡◌, [], ◌∷◌, None, IfErr, IfOk};
 ghost use Rattle.pgw_frontend.specs.Frontend.{encodings};
 ghost use Rattle.pgw_session.specs.Requests.{kind_of, sends_of};
 ghost use Rattle.pgw_dialogue.specs.Wire.{IsOwn, PutOut};

@@ -1,5 +1,5 @@
 //! The messages of a piece, taken one by one.
-ghost use Rattle.std.specs.Prelude.{◌≡◌, ◌≤◌, ◌+◌, ◌++◌, false, length, min, take, IfOk, IfErr, OnOk};
+ghost use Rattle.std.specs.Prelude.{◌≡◌, ◌≤◌, ◌+◌, ◌++◌, false, min, take, IfErr};
 ghost use Rattle.pgw_dialogue.specs.Input.{input_of};
 ghost use Rattle.pgw_dialogue.specs.Wire.{IsOwn};
 ghost use Rattle.pgw_dialogue.specs.Steps.{TookInbox};
@@ -12,7 +12,7 @@ use pgw_backend::client_error::{PgWireClientError, PgWireClientResult};
 use pgw_session::notes::Notes;
 use std::alloc::Global;
 
-/// The bytes of a piece are taken in parts of so many.
+// The bytes of a piece are taken in parts of so many.
 const PART: usize = 8192;
 
 // Takes the messages at the front, and puts out what falls due. Answers whether the session is whole.

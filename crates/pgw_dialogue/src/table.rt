@@ -1,8 +1,6 @@
 //! What a message does at a stage of the open segment.
 ghost use Rattle.std.specs.Prelude.{◌≡◌, Some, IfOk};
 ghost use Rattle.pgw_hash.specs.Saslprep.{saslprep};
-ghost use Rattle.pgw_scram.specs.Answers.{AnswersClient};
-ghost use Rattle.pgw_scram.specs.Client.{scram_reply};
 ghost use Rattle.pgw_session.specs.Logins.{first_message, password_of, scram_login, user_of};
 ghost use Rattle.pgw_session.specs.Requests.{behind_error, role};
 ghost use Rattle.pgw_session.specs.Segments.{is_early, is_news, is_ready};

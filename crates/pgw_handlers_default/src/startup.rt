@@ -4,7 +4,6 @@ ghost use Rattle.pgw_wire.specs.declared.secret_key.SecretKey.TheVariants.{I32};
 ghost use Rattle.pgw_session.specs.declared.stage.Stage.TheVariants.{Starting};
 ghost use Rattle.pgw_session.specs.Segments.{startup_message};
 ghost use Rattle.pgw_session.specs.Table.{next_after as table};
-ghost use Rattle.pgw_dialogue.specs.Input.{input_of};
 ghost use Rattle.pgw_handlers.specs.Handling.{standing, pending, ready_answer, Leaves};
 ghost use Rattle.pgw_handlers_default.specs.Causes.{RefusesCaused};
 ghost use Rattle.pgw_handlers_default.specs.Startup.{FollowsNext, GivesInformation, SendsReply, closes, login_input};

@@ -54,7 +54,7 @@ fn ask_check<L: Link>(
     simple_queries_are_segments();
     simple_queries_follow_one_another();
     let handler = DefaultSimpleQueryHandler::new(alloc);
-    client.simple_query(alloc, handler, "")
+    client.simple_query(handler, "")
 }
 
 fn is_empty_query(responses: &Listed<Response>) -> bool
@@ -121,7 +121,7 @@ impl<L: Link> Pool<L> {
     /// Lends the session that has been idle longest, if it still answers: it is asked an empty query
     /// first. Where it does not answer that by one empty query, with no transaction open behind it, it
     /// is dropped with its link, and why is told.
-    pub fn lend_checked(&mut self, alloc: Global) -> Result<Lease<L>, CheckError>
+    pub fn lend_checked(&mut self) -> Result<Lease<L>, CheckError>
         ensures room { room_of self.new ≡ room_of self.old }
         ensures reserved { reserved_in self.new ≡ reserved_in self.old }
         ensures connected { connected_by self.new ≡ connected_by self.old }
@@ -181,7 +181,7 @@ impl<L: Link> Pool<L> {
             return Err(CheckError::Empty);
         };
         let Session { mut client, leases } = session;
-        match look_at(alloc, &mut client) {
+        match look_at(self.alloc, &mut client) {
             Ok(()) => {
                 let leases = leases.saturating_add(1);
                 self.lent += 1;

@@ -1,5 +1,5 @@
 //! The end of a pool, and of a session that is not to be kept.
-ghost use Rattle.std.specs.Prelude.{◌≡◌, [], ◌+◌, ◌-◌, ◌≤◌, length, false};
+ghost use Rattle.std.specs.Prelude.{◌≡◌, [], ◌-◌, false};
 ghost use Rattle.pgw_types.specs.Counts.{next_count};
 ghost use Rattle.pgw_handlers.specs.Handling.{HasCause};
 ghost use Rattle.pgw_client_calls.specs.Closing.{Closed};
@@ -40,6 +40,7 @@ impl<L: Link> Pool<L> {
         ensures offers { D.foretells → D.offers dialer.new ≡ D.offers dialer.old }
     {
         let Pool {
+            alloc: _alloc,
             mut idle,
             room: _room,
             lent: _lent,

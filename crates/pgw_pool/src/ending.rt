@@ -7,7 +7,6 @@ use crate::lease::Lease;
 use crate::pool::Pool;
 use crate::returned::Returned;
 use pgw_client::{Dialer, Link, PgWireClientResult};
-use std::alloc::Global;
 
 /// How a lease ended.
 #[derive(Debug, Drop)]
@@ -29,7 +28,6 @@ impl<L: Link> Pool<L> {
     /// one included. Else it retires the session, as `retire` does.
     pub fn give_back_within<D: Dialer<Link = L>>(
         &mut self,
-        alloc: Global,
         lease: Lease<L>,
         most: u64,
         dialer: &mut D,
@@ -83,7 +81,7 @@ impl<L: Link> Pool<L> {
         ensures offers { D.foretells → D.offers dialer.new ≡ D.offers dialer.old }
     {
         if lease.leases() < most {
-            LeaseEnd::GivenBack(self.give_back(alloc, lease))
+            LeaseEnd::GivenBack(self.give_back(lease))
         } else {
             LeaseEnd::Retired(self.retire(lease, dialer))
         }

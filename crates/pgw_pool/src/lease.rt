@@ -1,5 +1,5 @@
 //! A session that is lent.
-ghost use Rattle.std.specs.Prelude.{◌≡◌, ℕ, Err, IfOk, IfErr, true, false};
+ghost use Rattle.std.specs.Prelude.{◌≡◌, Err, IfOk, IfErr, true, false};
 ghost use Rattle.pgw_backend.specs.declared.client_error.PgWireClientError.TheVariants as failure;
 ghost use Rattle.pgw_handlers.specs.Handling.{HasCause};
 ghost use Rattle.pgw_client_calls.specs.State.{link_of};
@@ -10,7 +10,6 @@ ghost use Rattle.pgw_client_ask.specs.Asking.{Asks, EndsRequest};
 use pgw_client::{Answer, Link, PgWireClientResult, Request};
 use pgw_client_ask::ask;
 use pgw_client_calls::{CancelToken, PgWireClient};
-use std::alloc::Global;
 
 /// A session that is lent, until it is given back to a pool. It cannot be let go in another way.
 pub struct Lease<L: Link> {
@@ -46,7 +45,7 @@ impl<L: Link> Lease<L> {
     }
 
     /// What cancels what the server does for the session of this lease, to be used from anywhere.
-    pub fn cancel_token(&self, alloc: Global) -> PgWireClientResult<CancelToken>
+    pub fn cancel_token(&self) -> PgWireClientResult<CancelToken>
         ensures broken { (lease_view L.tape L.faults self.now).broken ≡ true →
             result ≡ Err failure.Broken }
         // It is this session's.
@@ -55,12 +54,12 @@ impl<L: Link> Lease<L> {
         ensures lacks { (lease_view L.tape L.faults self.now).broken ≡ false →
             IfErr result (LacksAddress (lease_view L.tape L.faults self.now).client.config) }
     {
-        self.client.cancel_token(alloc)
+        self.client.cancel_token()
     }
 
     /// Asks a request by the default handlers, and gives its answer. The server's error is an answer,
     /// where the session can go on behind it.
-    pub fn run(&mut self, alloc: Global, request: &Request) -> PgWireClientResult<Answer>
+    pub fn run(&mut self, request: &Request) -> PgWireClientResult<Answer>
         ensures number { lease_number self.new ≡ lease_number self.old }
         ensures had { leases_of self.new ≡ leases_of self.old }
         // A session that an earlier error left unusable is asked nothing.
@@ -95,6 +94,6 @@ impl<L: Link> Lease<L> {
         ensures within { StaysWithin (lease_view L.tape L.faults self.old).line
             (lease_view L.tape L.faults self.new).line }
     {
-        ask(alloc, &mut self.client, request)
+        ask(&mut self.client, request)
     }
 }

@@ -15,6 +15,7 @@ use std::collections::VecDeque;
 /// Some sessions with one server. Room for all of them is taken as it is started.
 #[derive(Drop)]
 pub struct Pool<L: Link> {
+    pub(crate) alloc: Global,
     // The one that has been idle longest stands first.
     pub(crate) idle: VecDeque<Session<L>>,
     pub(crate) room: usize,
@@ -94,6 +95,7 @@ impl<L: Link> Pool<L> {
             }
         }
         Ok(Pool {
+            alloc,
             idle,
             room: nonces.len(),
             lent: 0,
@@ -224,7 +226,7 @@ impl<L: Link> Pool<L> {
     /// Asks `DISCARD ALL` of a session whose lease is over. Where that is answered, and no transaction
     /// is open behind it, the session is idle from then on, behind all others. Else it is dropped with
     /// its link. To keep it takes no memory of the pool's own: the room taken for the sessions stays.
-    pub fn give_back(&mut self, alloc: Global, lease: Lease<L>) -> Returned
+    pub fn give_back(&mut self, lease: Lease<L>) -> Returned
         requires { length (idle_in L.tape L.faults self.old) < room_of self.old }
         ensures room { room_of self.new ≡ room_of self.old }
         ensures reserved { reserved_in self.new ≡ reserved_in self.old }
@@ -263,7 +265,7 @@ impl<L: Link> Pool<L> {
             leases,
         } = lease;
         self.out = self.out.saturating_sub(1);
-        match reset(alloc, &mut client) {
+        match reset(self.alloc, &mut client) {
             Returned::Kept => {
                 self.keep(client, leases);
                 Returned::Kept

@@ -7,7 +7,6 @@ ghost use Rattle.pgw_handlers.specs.Handling.{HasCause};
 use crate::pool::Pool;
 use crate::starting::log_in;
 use pgw_client::{Config, Dialer, Link, PgWireClientResult};
-use std::alloc::Global;
 
 impl<L: Link> Pool<L> {
     ghost use Rattle.pgw_pool.specs.Histories.{History, new_history, AreIdle};
@@ -20,7 +19,6 @@ impl<L: Link> Pool<L> {
     /// was.
     pub fn refill<D: Dialer<Link = L>>(
         &mut self,
-        alloc: Global,
         config: &Config,
         nonce: [u8; 18],
         limit: u64,
@@ -69,7 +67,7 @@ impl<L: Link> Pool<L> {
         // IoError comes only where the dialer's count rose, and Broken never.
         ensures cause { HasCause (D.faults dialer.old) (D.faults dialer.new) false result }
     {
-        match log_in(alloc, config, nonce, limit, dialer) {
+        match log_in(self.alloc, config, nonce, limit, dialer) {
             Ok(client) => {
                 self.keep(client, 0);
                 self.connected = self.connected.saturating_add(1);

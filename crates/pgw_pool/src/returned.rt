@@ -89,7 +89,7 @@ fn ask_reset<L: Link>(
     simple_queries_are_segments();
     simple_queries_follow_one_another();
     let handler = DefaultSimpleQueryHandler::new(alloc);
-    client.simple_query(alloc, handler, RESET)
+    client.simple_query(handler, RESET)
 }
 
 // Asks the reset, and tells by its answer whether the session is kept.

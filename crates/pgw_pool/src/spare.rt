@@ -90,7 +90,7 @@ impl<L: Link> Lease<L> {
     /// Ends the lease: asks `DISCARD ALL` of its session, which needs no pool. Where that is answered,
     /// and no transaction is open behind it, the session may be put into a pool. Else it is dropped
     /// with its link.
-    pub fn reset(self, alloc: Global) -> Result<Spare<L>, DropCause>
+    pub fn reset(self) -> Result<Spare<L>, DropCause>
         ensures number { IfOk result (λ s. last_lease s ≡ lease_number self) }
         ensures had { IfOk result (λ s. spare_leases s ≡ leases_of self) }
         // As `Pool::give_back` keeps or drops it.
@@ -113,7 +113,7 @@ impl<L: Link> Lease<L> {
             number,
             leases,
         } = self;
-        match reset(alloc, &mut client) {
+        match reset(client.alloc(), &mut client) {
             Returned::Kept => {
                 Ok(Spare {
                     client,

@@ -1,11 +1,10 @@
 //! A session that a thread has.
-ghost use Rattle.std.specs.Prelude.{◌≡◌, ℕ, Err, true, false};
+ghost use Rattle.std.specs.Prelude.{◌≡◌, Err, true, false};
 ghost use Rattle.pgw_backend.specs.declared.client_error.PgWireClientError.TheVariants as failure;
 ghost use Rattle.pgw_handlers.specs.Handling.{HasCause};
 
 use pgw_client::{Answer, Link, PgWireClientResult, Request};
 use pgw_pool::Lease;
-use std::alloc::Global;
 use std::marker::Model;
 
 /// A session that is lent, until it is given back to its pool. It cannot be let go in another way.
@@ -57,7 +56,7 @@ impl<L: Link> SharedLease<L> {
     }
 
     /// Asks a request by the default handlers, and gives its answer, as `pgw_pool::Lease::run` does.
-    pub fn run(&mut self, alloc: Global, request: &Request) -> PgWireClientResult<Answer>
+    pub fn run(&mut self, request: &Request) -> PgWireClientResult<Answer>
         ensures number { self.new.number ≡ self.old.number }
         // Over the session stand its leases before and the requests of this one, or an error has left
         // it unusable.
@@ -74,6 +73,6 @@ impl<L: Link> SharedLease<L> {
         // No more bytes are read than the pool was given as the limit of a session.
         ensures within { StaysWithin self.old.view.line self.new.view.line }
     {
-        self.lease.run(alloc, request)
+        self.lease.run(request)
     }
 }

@@ -16,6 +16,7 @@ use std::time::{Clock, Duration};
 /// Some sessions with one server, which threads share.
 #[derive(Drop)]
 pub struct SharedPool<L: Link> {
+    alloc: Global,
     turns: Turns<Sessions<L>>,
 }
 
@@ -74,7 +75,7 @@ impl<L: Link> SharedPool<L> {
             Err(error) => return Err(error),
         };
         match Turns::new(alloc, Sessions { pool }, room_to_wait) {
-            Ok(turns) => Ok(SharedPool { turns }),
+            Ok(turns) => Ok(SharedPool { alloc, turns }),
             Err(_) => Err(PgWireClientError::OutOfMemory),
         }
     }
@@ -86,7 +87,10 @@ impl<L: Link> SharedPool<L> {
         ensures { (hs : List History) ×
             AreIdle (lent_by result) hs (idle_in L.tape L.faults result) }
     {
-        let SharedPool { turns } = self;
+        let SharedPool {
+            alloc: _alloc,
+            turns,
+        } = self;
         let Sessions { pool } = turns.into_stock();
         pool
     }
@@ -119,12 +123,12 @@ impl<L: Link> SharedPool<L> {
     /// Ends a lease: asks `DISCARD ALL` of its session while no other thread waits for that. Where it
     /// is answered, and no transaction is open behind it, the session is idle, or lent to the thread
     /// that has waited longest. Else it is dropped with its link.
-    pub fn give_back<R: Wait>(&self, rt: &R, alloc: Global, lease: SharedLease<L>) -> GivenBack
+    pub fn give_back<R: Wait>(&self, rt: &R, lease: SharedLease<L>) -> GivenBack
         // By the answer of the reset, as `pgw_pool::Pool::give_back` keeps or drops a session.
         ensures { (now : List View) × GivesBack lease.view [] now (returned_by_pool result) }
     {
         let SharedLease { lease } = lease;
-        match lease.reset(alloc) {
+        match lease.reset() {
             Ok(spare) => {
                 if self.turns.give_back(rt, Ready { spare }) {
                     GivenBack::Kept
@@ -145,7 +149,6 @@ impl<L: Link> SharedPool<L> {
     pub fn refill<D: Dialer<Link = L>, R: Wait>(
         &self,
         rt: &R,
-        alloc: Global,
         config: &Config,
         nonce: [u8; 18],
         limit: u64,
@@ -164,7 +167,7 @@ impl<L: Link> SharedPool<L> {
         if !self.turns.claim(rt) {
             return Ok(Refilled::Full);
         }
-        match Spare::connect(alloc, config, nonce, limit, dialer) {
+        match Spare::connect(self.alloc, config, nonce, limit, dialer) {
             Ok(spare) => {
                 if self.turns.fill(rt, Ready { spare }) {
                     Ok(Refilled::Added)

@@ -1,5 +1,4 @@
 //! The sessions of a pool, as things to be lent.
-ghost use Rattle.std.specs.Prelude.{◌≡◌, ◌≤◌, IfSome, MatchOption, MatchBool};
 
 use crate::lease::SharedLease;
 use crate::ready::Ready;

@@ -3,7 +3,6 @@
 use crate::servers::{LEASE, name, start};
 use pgw_client::{Answer, MemoryLink, Request};
 use pgw_pool_shared::{Numbers, SharedPool};
-use std::alloc::Global;
 use std::process::Abort;
 use std::sync::atomic::{AtomicU64, Ordering};
 use std::sync::{Mutex, Wait};
@@ -29,7 +28,6 @@ struct Done {
 // One lease: a request is asked in it, and it is given back.
 fn lease_once<R: Wait + Clock>(
     rt: &R,
-    alloc: Global,
     pool: &SharedPool<MemoryLink>,
     request: &Request,
     done: &Done,
@@ -38,34 +36,27 @@ fn lease_once<R: Wait + Clock>(
         return;
     };
     let _noted = done.numbers.lock(rt).push(lease.number());
-    let answer = lease.run(alloc, request);
+    let answer = lease.run(request);
     if matches!(&answer, Ok(Answer::Responses(_))) {
         done.answered.fetch_add(1, Ordering::SeqCst);
     }
     drop(answer);
     thread::yield_now();
-    let given_back = pool.give_back(rt, alloc, lease);
+    let given_back = pool.give_back(rt, lease);
     if name(&given_back) == "kept" {
         done.kept.fetch_add(1, Ordering::SeqCst);
     }
     drop(given_back);
 }
 
-fn leases<R: Wait + Clock>(
-    rt: &R,
-    alloc: Global,
-    pool: &SharedPool<MemoryLink>,
-    request: &Request,
-    done: &Done,
-) {
+fn leases<R: Wait + Clock>(rt: &R, pool: &SharedPool<MemoryLink>, request: &Request, done: &Done) {
     for _ in 0..LEASES {
-        lease_once(rt, alloc, pool, request, done);
+        lease_once(rt, pool, request, done);
     }
 }
 
 fn take_all<R: Threads + Wait + Clock + Sync>(
     rt: &R,
-    alloc: Global,
     pool: &SharedPool<MemoryLink>,
     request: &Request,
     done: &Done,
@@ -73,7 +64,7 @@ fn take_all<R: Threads + Wait + Clock + Sync>(
     thread::scope(thread::scope_env(), rt, |scope| {
         for _ in 0..THREADS {
             if scope
-                .spawn(move || leases(rt, alloc, pool, request, done))
+                .spawn(move || leases(rt, pool, request, done))
                 .is_err()
             {
                 return;
@@ -110,7 +101,7 @@ fn each_lease_is_answered_and_reset(rt: HostRuntime) -> Result<(), Fail> {
         answered: AtomicU64::new(0),
         kept: AtomicU64::new(0),
     };
-    take_all(&rt, alloc, &pool, &request, &done);
+    take_all(&rt, &pool, &request, &done);
     check(&rt, pool.numbers(&rt), &done);
     let Done { numbers, .. } = done;
     check_numbers(&rt, numbers.into_inner())?;

@@ -3,7 +3,6 @@
 use crate::servers::{DISCARDED, start};
 use pgw_client::MemoryLink;
 use pgw_pool_shared::{LendRefusal, SharedPool};
-use std::alloc::Global;
 use std::sync::{Mutex, Wait};
 use std::test::Fail;
 use std::thread;
@@ -36,18 +35,12 @@ fn until_noted<R: Wait + Clock>(rt: &R, noted: &Mutex<Vec<u8>>, count: usize) {
 
 // Notes its name when it is served, or a number above 10 when it is refused for the time. The name 2
 // gives up early.
-fn visit<R: Wait + Clock>(
-    rt: &R,
-    alloc: Global,
-    pool: &SharedPool<MemoryLink>,
-    noted: &Mutex<Vec<u8>>,
-    name: u8,
-) {
+fn visit<R: Wait + Clock>(rt: &R, pool: &SharedPool<MemoryLink>, noted: &Mutex<Vec<u8>>, name: u8) {
     let time = Duration::from_millis(if name == 2 { SHORT } else { LONG });
     match pool.lend(rt, Some(time)) {
         Ok(lease) => {
             let _noted = noted.lock(rt).push(name);
-            drop(pool.give_back(rt, alloc, lease));
+            drop(pool.give_back(rt, lease));
         }
         Err(LendRefusal::TimedOut) => {
             let _noted = noted.lock(rt).push(name.saturating_add(10));
@@ -62,7 +55,6 @@ const NAMES: &[(u8, usize)] = &[(1, 1), (2, 1), (3, 2), (4, 3)];
 // Threads come one after the other while the session is lent; then it comes back.
 fn come<R: Threads + Wait + Clock + Sync>(
     rt: &R,
-    alloc: Global,
     pool: &SharedPool<MemoryLink>,
     noted: &Mutex<Vec<u8>>,
 ) {
@@ -72,15 +64,13 @@ fn come<R: Threads + Wait + Clock + Sync>(
         };
         for (name, waiting) in NAMES {
             let (name, waiting) = (*name, *waiting);
-            let _started = scope
-                .spawn(move || visit(rt, alloc, pool, noted, name))
-                .is_ok();
+            let _started = scope.spawn(move || visit(rt, pool, noted, name)).is_ok();
             if name == 2 {
                 until_noted(rt, noted, 1);
             }
             until_waiting(rt, pool, waiting);
         }
-        drop(pool.give_back(rt, alloc, lease));
+        drop(pool.give_back(rt, lease));
     });
 }
 
@@ -89,7 +79,7 @@ fn who_came_first_is_served_first(rt: HostRuntime) -> Result<(), Fail> {
     let alloc = rt.alloc();
     let pool = start(alloc, &[(DISCARDED, 4)], 4)?;
     let noted = Mutex::new(Vec::new(alloc));
-    come(&rt, alloc, &pool, &noted);
+    come(&rt, &pool, &noted);
     assert_eq!(rt; noted.into_inner().as_slice(), [12, 1, 3, 4].as_slice());
     assert_eq!(rt; pool.numbers(&rt).ready, 1);
     Ok(())
@@ -98,13 +88,12 @@ fn who_came_first_is_served_first(rt: HostRuntime) -> Result<(), Fail> {
 // Why no session is lent.
 fn refusal<R: Wait + Clock>(
     rt: &R,
-    alloc: Global,
     pool: &SharedPool<MemoryLink>,
     time: Option<Duration>,
 ) -> Option<LendRefusal> {
     match pool.lend(rt, time) {
         Ok(lease) => {
-            drop(pool.give_back(rt, alloc, lease));
+            drop(pool.give_back(rt, lease));
             None
         }
         Err(why) => Some(why),
@@ -114,14 +103,13 @@ fn refusal<R: Wait + Clock>(
 // Why no other is lent while the one session is out.
 fn refused<R: Wait + Clock>(
     rt: &R,
-    alloc: Global,
     pool: &SharedPool<MemoryLink>,
     time: Option<Duration>,
 ) -> Option<LendRefusal> {
     match pool.lend(rt, None) {
         Ok(lease) => {
-            let why = refusal(rt, alloc, pool, time);
-            drop(pool.give_back(rt, alloc, lease));
+            let why = refusal(rt, pool, time);
+            drop(pool.give_back(rt, lease));
             why
         }
         Err(_) => None,
@@ -133,16 +121,10 @@ fn who_waits_too_long_is_refused(rt: HostRuntime) -> Result<(), Fail> {
     let alloc = rt.alloc();
     let short = Some(Duration::from_millis(SHORT));
     let pool = start(alloc, &[(DISCARDED, 4)], 1)?;
-    assert_eq!(rt; refusal(&rt, alloc, &pool, None), None);
-    assert_eq!(rt;
-        refused(&rt, alloc, &pool, short),
-        Some(LendRefusal::TimedOut)
-    );
-    assert_eq!(rt; refusal(&rt, alloc, &pool, short), None);
+    assert_eq!(rt; refusal(&rt, &pool, None), None);
+    assert_eq!(rt; refused(&rt, &pool, short), Some(LendRefusal::TimedOut));
+    assert_eq!(rt; refusal(&rt, &pool, short), None);
     let crowded = start(alloc, &[(DISCARDED, 4)], 0)?;
-    assert_eq!(rt;
-        refused(&rt, alloc, &crowded, None),
-        Some(LendRefusal::Crowded)
-    );
+    assert_eq!(rt; refused(&rt, &crowded, None), Some(LendRefusal::Crowded));
     Ok(())
 }

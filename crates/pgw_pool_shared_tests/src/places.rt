@@ -3,7 +3,6 @@
 use crate::servers::{DISCARDED, REFUSED, config, dialer_to, name, refill, start};
 use pgw_client::{Config, MemoryDialer, MemoryLink};
 use pgw_pool_shared::SharedPool;
-use std::alloc::Global;
 use std::sync::Wait;
 use std::sync::atomic::{AtomicU64, Ordering};
 use std::test::Fail;
@@ -14,14 +13,13 @@ use std::time::{Clock, Duration};
 // Takes one lease, and gives its number and what became of its session.
 fn lease_once<R: Wait + Clock>(
     rt: &R,
-    alloc: Global,
     pool: &SharedPool<MemoryLink>,
     time: Option<Duration>,
 ) -> (u64, &'static str) {
     match pool.lend(rt, time) {
         Ok(lease) => {
             let number = lease.number();
-            let given_back = pool.give_back(rt, alloc, lease);
+            let given_back = pool.give_back(rt, lease);
             let became = name(&given_back);
             drop(given_back);
             (number, became)
@@ -37,14 +35,14 @@ fn a_place_that_is_free_is_filled(rt: HostRuntime) -> Result<(), Fail> {
     let pool = start(alloc, &[(REFUSED, 1)], 1)?;
     let mut dialer = dialer_to(alloc, &[(DISCARDED, 2)], Some(1))?;
     let config = config(alloc)?;
-    assert_eq!(rt; refill(&rt, alloc, &pool, &config, &mut dialer), "full");
-    assert_eq!(rt; lease_once(&rt, alloc, &pool, none), (1, "refused"));
-    assert_eq!(rt; lease_once(&rt, alloc, &pool, none), (0, "none"));
-    assert_eq!(rt; refill(&rt, alloc, &pool, &config, &mut dialer), "failed");
+    assert_eq!(rt; refill(&rt, &pool, &config, &mut dialer), "full");
+    assert_eq!(rt; lease_once(&rt, &pool, none), (1, "refused"));
+    assert_eq!(rt; lease_once(&rt, &pool, none), (0, "none"));
+    assert_eq!(rt; refill(&rt, &pool, &config, &mut dialer), "failed");
     assert_eq!(rt; pool.numbers(&rt).out, 0);
-    assert_eq!(rt; refill(&rt, alloc, &pool, &config, &mut dialer), "added");
-    assert_eq!(rt; refill(&rt, alloc, &pool, &config, &mut dialer), "full");
-    assert_eq!(rt; lease_once(&rt, alloc, &pool, none), (2, "kept"));
+    assert_eq!(rt; refill(&rt, &pool, &config, &mut dialer), "added");
+    assert_eq!(rt; refill(&rt, &pool, &config, &mut dialer), "full");
+    assert_eq!(rt; lease_once(&rt, &pool, none), (2, "kept"));
     let pool = pool.into_pool();
     assert_eq!(rt; pool.connected(), 2);
     assert_eq!(rt; pool.dropped(), 1);
@@ -54,7 +52,6 @@ fn a_place_that_is_free_is_filled(rt: HostRuntime) -> Result<(), Fail> {
 // Has a thread wait for a session while another is connected, and gives the number of its lease.
 fn wait_for_one<R: Threads + Wait + Clock + Sync>(
     rt: &R,
-    alloc: Global,
     pool: &SharedPool<MemoryLink>,
     config: &Config,
     dialer: &mut MemoryDialer,
@@ -64,7 +61,7 @@ fn wait_for_one<R: Threads + Wait + Clock + Sync>(
     thread::scope(thread::scope_env(), rt, |scope| {
         let _started = scope
             .spawn(move || {
-                let (lease, _) = lease_once(rt, alloc, pool, Some(Duration::from_secs(30)));
+                let (lease, _) = lease_once(rt, pool, Some(Duration::from_secs(30)));
                 served.store(lease, Ordering::SeqCst);
             })
             .is_ok();
@@ -74,7 +71,7 @@ fn wait_for_one<R: Threads + Wait + Clock + Sync>(
             }
             thread::sleep(rt, Duration::from_millis(1));
         }
-        let _refilled = refill(rt, alloc, pool, config, dialer);
+        let _refilled = refill(rt, pool, config, dialer);
     });
     number.load(Ordering::SeqCst)
 }
@@ -85,8 +82,8 @@ fn who_waits_gets_the_session_that_is_connected(rt: HostRuntime) -> Result<(), F
     let pool = start(alloc, &[(REFUSED, 1)], 1)?;
     let mut dialer = dialer_to(alloc, &[(DISCARDED, 1)], None)?;
     let config = config(alloc)?;
-    assert_eq!(rt; lease_once(&rt, alloc, &pool, None), (1, "refused"));
-    assert_eq!(rt; wait_for_one(&rt, alloc, &pool, &config, &mut dialer), 2);
+    assert_eq!(rt; lease_once(&rt, &pool, None), (1, "refused"));
+    assert_eq!(rt; wait_for_one(&rt, &pool, &config, &mut dialer), 2);
     assert_eq!(rt; pool.numbers(&rt).ready, 1);
     Ok(())
 }
@@ -94,13 +91,12 @@ fn who_waits_gets_the_session_that_is_connected(rt: HostRuntime) -> Result<(), F
 // Gives a pool's lease back to another pool, in which none is out.
 fn given_elsewhere<R: Wait + Clock>(
     rt: &R,
-    alloc: Global,
     pool: &SharedPool<MemoryLink>,
     other: &SharedPool<MemoryLink>,
 ) -> &'static str {
     match pool.lend(rt, None) {
         Ok(lease) => {
-            let given_back = other.give_back(rt, alloc, lease);
+            let given_back = other.give_back(rt, lease);
             let became = name(&given_back);
             drop(given_back);
             became
@@ -114,7 +110,7 @@ fn a_lease_of_another_pool_is_let_go(rt: HostRuntime) -> Result<(), Fail> {
     let alloc = rt.alloc();
     let pool = start(alloc, &[(DISCARDED, 1)], 1)?;
     let other = start(alloc, &[(DISCARDED, 1)], 1)?;
-    assert_eq!(rt; given_elsewhere(&rt, alloc, &pool, &other), "foreign");
+    assert_eq!(rt; given_elsewhere(&rt, &pool, &other), "foreign");
     assert_eq!(rt; other.numbers(&rt).ready, 1);
     assert_eq!(rt; other.numbers(&rt).out, 0);
     Ok(())

@@ -85,12 +85,11 @@ pub(crate) fn start(
 /// Connects a session for a place that is free, and says what came of it.
 pub(crate) fn refill<R: Wait>(
     rt: &R,
-    alloc: Global,
     pool: &SharedPool<MemoryLink>,
     config: &Config,
     dialer: &mut MemoryDialer,
 ) -> &'static str {
-    match pool.refill(rt, alloc, config, [1; 18], 10_000, dialer) {
+    match pool.refill(rt, config, [1; 18], 10_000, dialer) {
         Ok(Refilled::Added) => "added",
         Ok(Refilled::Full) => "full",
         Ok(Refilled::Displaced) => "displaced",

@@ -3,7 +3,9 @@
 ghost use Rattle.std.specs.Prelude.{All, IfOk};
 ghost use Rattle.pgw_link.specs.MemoryLinks.{IsUnused};
 
-use crate::lending::{BOUND, DISCARDED, DONE, ERROR, IDLE, OPEN, WELCOME, came_name, error_name};
+use crate::lending::{
+    BOUND, DISCARDED, DONE, ERROR, IDLE, OPEN, WELCOME, came_name, error_name, nonces_for,
+};
 use pgw_client::{
     Config, Listed, MemoryDialer, MemoryLink, Octets, OutOfMemory, PgWireClientError,
     PgWireClientResult, Request, TransactionStatus,
@@ -74,21 +76,13 @@ pub(crate) fn dialer_to(
     Ok(MemoryDialer::new(links, dials))
 }
 
-fn nonces_for(alloc: Global, servers: &[Server]) -> Result<Vec<[u8; 18]>, Fail> {
-    let mut nonces: Vec<[u8; 18]> = Vec::new(alloc);
-    for _ in servers {
-        nonces.push([0; 18])?;
-    }
-    Ok(nonces)
-}
-
 // A pool of a session with each server.
 pub(crate) fn pool_over(
     alloc: Global,
     config: &Config,
     servers: &[Server],
 ) -> Result<Pool<MemoryLink>, Fail> {
-    let nonces = nonces_for(alloc, servers)?;
+    let nonces = nonces_for(alloc, servers.len())?;
     let mut dialer = dialer_to(alloc, servers, 0)?;
     let started = Pool::start(alloc, config, nonces.as_slice(), 10_000, &mut dialer).ok();
     match started {
@@ -135,19 +129,19 @@ fn end_word(returned: &Returned) -> &'static str {
 // What came of a request, how its lease ended, and what the pool then holds.
 pub(crate) type Ended = (&'static str, &'static str, Numbers);
 
-fn answered(alloc: Global, lease: &mut Lease<MemoryLink>, request: &Request) -> &'static str {
-    let came = lease.run(alloc, request);
+fn answered(lease: &mut Lease<MemoryLink>, request: &Request) -> &'static str {
+    let came = lease.run(request);
     let name = came_name(&came);
     drop(came);
     name
 }
 
 // Takes a lease, asks in it and gives it back.
-pub(crate) fn leased(alloc: Global, pool: &mut Pool<MemoryLink>, request: &Request) -> Ended {
+pub(crate) fn leased(pool: &mut Pool<MemoryLink>, request: &Request) -> Ended {
     match pool.lend() {
         Ok(mut lease) => {
-            let name = answered(alloc, &mut lease, request);
-            let returned = pool.give_back(alloc, lease);
+            let name = answered(&mut lease, request);
+            let returned = pool.give_back(lease);
             let ends = end_word(&returned);
             drop(returned);
             (name, ends, numbers(pool))
@@ -235,22 +229,39 @@ const DROPPED_LEASES: &[Case] = &[
 // What comes of leases of a pool, one after the other.
 pub(crate) fn check_leases<R: Abort>(
     rt: &R,
-    alloc: Global,
     pool: &mut Pool<MemoryLink>,
     request: &Request,
     leases: &[Ended],
 ) {
     for wanted in leases {
-        assert_eq!(rt; leased(alloc, pool, request), *wanted);
+        assert_eq!(rt; leased(pool, request), *wanted);
     }
 }
 
-fn check_cases<R: Abort>(rt: &R, alloc: Global, cases: &[Case]) -> Result<(), Fail> {
+// What a test asks, and by which configuration.
+#[derive(Drop)]
+pub(crate) struct Setting {
+    pub(crate) config: Config,
+    pub(crate) request: Request,
+}
+
+pub(crate) fn new_setting(alloc: Global) -> Result<Setting, Fail> {
     let config = Config::parse(alloc, "user=bob host=a")?;
     let request = Request::simple(alloc, "SELECT 1")?;
-    for (servers, leases) in cases {
-        let mut pool = pool_over(alloc, &config, servers)?;
-        check_leases(rt, alloc, &mut pool, &request, leases);
+    Ok(Setting { config, request })
+}
+
+fn check_case<R: Abort>(rt: &R, alloc: Global, setting: &Setting, case: Case) -> Result<(), Fail> {
+    let (servers, leases) = case;
+    let mut pool = pool_over(alloc, &setting.config, servers)?;
+    check_leases(rt, &mut pool, &setting.request, leases);
+    Ok(())
+}
+
+fn check_cases<R: Abort>(rt: &R, alloc: Global, cases: &[Case]) -> Result<(), Fail> {
+    let setting = new_setting(alloc)?;
+    for case in cases {
+        check_case(rt, alloc, &setting, *case)?;
     }
     Ok(())
 }
@@ -281,10 +292,10 @@ fn check_word(error: &CheckError) -> &'static str {
 }
 
 // Takes a lease of a session that answers, and gives it back.
-fn checked(alloc: Global, pool: &mut Pool<MemoryLink>) -> Ended {
-    match pool.lend_checked(alloc) {
+fn checked(pool: &mut Pool<MemoryLink>) -> Ended {
+    match pool.lend_checked() {
         Ok(lease) => {
-            let returned = pool.give_back(alloc, lease);
+            let returned = pool.give_back(lease);
             let ends = end_word(&returned);
             drop(returned);
             ("lent", ends, numbers(pool))
@@ -359,19 +370,25 @@ const CHECKS: &[Case] = &[
     ),
 ];
 
-fn check_checks<R: Abort>(rt: &R, alloc: Global, pool: &mut Pool<MemoryLink>, leases: &[Ended]) {
+fn check_checks<R: Abort>(rt: &R, pool: &mut Pool<MemoryLink>, leases: &[Ended]) {
     for wanted in leases {
-        assert_eq!(rt; checked(alloc, pool), *wanted);
+        assert_eq!(rt; checked(pool), *wanted);
     }
+}
+
+fn check_check<R: Abort>(rt: &R, alloc: Global, config: &Config, case: Case) -> Result<(), Fail> {
+    let (servers, leases) = case;
+    let mut pool = pool_over(alloc, config, servers)?;
+    check_checks(rt, &mut pool, leases);
+    Ok(())
 }
 
 #[test]
 fn a_check_tells_why_a_session_is_not_fit(rt: HostRuntime) -> Result<(), Fail> {
     let alloc = rt.alloc();
     let config = Config::parse(alloc, "user=bob host=a")?;
-    for (servers, leases) in CHECKS {
-        let mut pool = pool_over(alloc, &config, servers)?;
-        check_checks(&rt, alloc, &mut pool, leases);
+    for case in CHECKS {
+        check_check(&rt, alloc, &config, *case)?;
     }
     Ok(())
 }
@@ -385,13 +402,12 @@ fn refill_word(came: &PgWireClientResult<()>) -> &'static str {
 
 // Connects a session in place of one that was lost, if one was.
 fn refilled(
-    alloc: Global,
     pool: &mut Pool<MemoryLink>,
     config: &Config,
     dialer: &mut MemoryDialer,
 ) -> (&'static str, Numbers) {
     if pool.idle() + pool.out() < pool.capacity() {
-        let came = pool.refill(alloc, config, [1; 18], 10_000, dialer);
+        let came = pool.refill(config, [1; 18], 10_000, dialer);
         let word = refill_word(&came);
         drop(came);
         (word, numbers(pool))
@@ -439,27 +455,37 @@ const STAYED: &[Ended] = &[
 
 fn check_refills<R: Abort>(
     rt: &R,
-    alloc: Global,
     config: &Config,
     pool: &mut Pool<MemoryLink>,
     dialer: &mut MemoryDialer,
 ) {
     for wanted in REFILLED {
-        assert_eq!(rt; refilled(alloc, pool, config, dialer), *wanted);
+        assert_eq!(rt; refilled(pool, config, dialer), *wanted);
     }
+}
+
+fn refill_late<R: Abort>(
+    rt: &R,
+    alloc: Global,
+    config: &Config,
+    pool: &mut Pool<MemoryLink>,
+) -> Result<(), Fail> {
+    let mut dialer = dialer_to(alloc, LATE, 1)?;
+    check_refills(rt, config, pool, &mut dialer);
+    Ok(())
+}
+
+fn lose_and_refill<R: Abort>(rt: &R, alloc: Global, setting: &Setting) -> Result<(), Fail> {
+    let mut pool = pool_over(alloc, &setting.config, EARLY)?;
+    check_leases(rt, &mut pool, &setting.request, LOST);
+    let refilled = refill_late(rt, alloc, &setting.config, &mut pool);
+    check_leases(rt, &mut pool, &setting.request, STAYED);
+    refilled
 }
 
 #[test]
 fn a_refill_that_fails_leaves_the_pool(rt: HostRuntime) -> Result<(), Fail> {
-    let alloc = rt.alloc();
-    let config = Config::parse(alloc, "user=bob host=a")?;
-    let request = Request::simple(alloc, "SELECT 1")?;
-    let mut dialer = dialer_to(alloc, LATE, 1)?;
-    let mut pool = pool_over(alloc, &config, EARLY)?;
-    check_leases(&rt, alloc, &mut pool, &request, LOST);
-    check_refills(&rt, alloc, &config, &mut pool, &mut dialer);
-    check_leases(&rt, alloc, &mut pool, &request, STAYED);
-    Ok(())
+    lose_and_refill(&rt, rt.alloc(), &new_setting(rt.alloc())?)
 }
 
 // What docs/POOL.md shows: a pool of one session without a network.
@@ -476,22 +502,27 @@ fn pool_of_one(
     Pool::start(alloc, config, &[[0; 18]], 10_000, &mut dialer)
 }
 
-// What comes of its first lease, if it is started.
-fn first_of_one(alloc: Global, config: &Config) -> Result<Option<Ended>, Fail> {
+// One whose server ends behind the login, and whose link fails at the first read of a request.
+fn failing_pool(alloc: Global, config: &Config) -> Result<Option<Pool<MemoryLink>>, Fail> {
     let server = Octets::from_slice(alloc, b"R\0\0\0\x08\0\0\0\0Z\0\0\0\x05I")?;
     let failing_reads = one(alloc, 16)?;
-    let request = Request::simple(alloc, "SELECT 1")?;
-    match pool_of_one(alloc, config, server, failing_reads).ok() {
-        Some(mut pool) => Ok(Some(leased(alloc, &mut pool, &request))),
-        None => Ok(None),
-    }
+    Ok(pool_of_one(alloc, config, server, failing_reads).ok())
+}
+
+// What comes of the first lease of a pool, if it is started.
+fn first_lease(started: Option<Pool<MemoryLink>>, request: &Request) -> Option<Ended> {
+    let mut pool = started?;
+    Some(leased(&mut pool, request))
+}
+
+fn first_of_one(alloc: Global, setting: &Setting) -> Result<Option<Ended>, Fail> {
+    let started = failing_pool(alloc, &setting.config)?;
+    Ok(first_lease(started, &setting.request))
 }
 
 #[test]
 fn a_pool_runs_without_a_network(rt: HostRuntime) -> Result<(), Fail> {
-    let alloc = rt.alloc();
-    let config = Config::parse(alloc, "user=bob host=a")?;
-    let wanted = ("fault", "Failed: broken", (0, 0, 1, 1));
-    assert_eq!(rt; first_of_one(alloc, &config)?, Some(wanted));
+    let ended = first_of_one(rt.alloc(), &new_setting(rt.alloc())?)?;
+    assert_eq!(rt; ended, Some(("fault", "Failed: broken", (0, 0, 1, 1))));
     Ok(())
 }

@@ -138,25 +138,25 @@ fn is_behind_reset(lease: &Lease<MemoryLink>) -> bool {
 }
 
 // Asks in a lease, and tells which it is and what came of it.
-fn asked(alloc: Global, lease: &mut Lease<MemoryLink>, request: &Request) -> [&'static str; 3] {
+fn asked(lease: &mut Lease<MemoryLink>, request: &Request) -> [&'static str; 3] {
     let number = number_name(lease.number());
     let behind = if is_behind_reset(lease) {
         " behind a reset"
     } else {
         ""
     };
-    let came = lease.run(alloc, request);
+    let came = lease.run(request);
     let name = came_name(&came);
     drop(came);
     [number, behind, name]
 }
 
 // Takes a lease, asks in it and gives it back.
-fn lease_once(alloc: Global, pool: &mut Pool<MemoryLink>, request: &Request) -> [&'static str; 4] {
+fn lease_once(pool: &mut Pool<MemoryLink>, request: &Request) -> [&'static str; 4] {
     match pool.lend() {
         Ok(mut lease) => {
-            let [number, behind, name] = asked(alloc, &mut lease, request);
-            let returned = pool.give_back(alloc, lease);
+            let [number, behind, name] = asked(&mut lease, request);
+            let returned = pool.give_back(lease);
             let ends = returned_name(&returned);
             drop(returned);
             [number, behind, name, ends]
@@ -206,40 +206,60 @@ pub(crate) fn links_to(
     Ok(links)
 }
 
-// Starts a pool with one session for each server, or tells why none was started.
-pub(crate) fn start(
+fn dialer_over(
     alloc: Global,
     servers: &[&[&[u8]]],
     fail_dials: Listed<u64>,
-) -> Result<Result<Pool<MemoryLink>, &'static str>, Fail> {
+) -> Result<MemoryDialer, OutOfMemory> {
+    Ok(MemoryDialer::new(links_to(alloc, servers)?, fail_dials))
+}
+
+// Starts a pool with one session for each server.
+fn try_start(
+    alloc: Global,
+    servers: &[&[&[u8]]],
+    dialer: &mut MemoryDialer,
+) -> Result<PgWireClientResult<Pool<MemoryLink>>, Fail> {
     let config = Config::parse(alloc, "user=bob host=a")?;
+    let nonces = nonces_for(alloc, servers.len())?;
+    Ok(Pool::start(alloc, &config, nonces.as_slice(), 10_000, dialer))
+}
+
+pub(crate) fn nonces_for(alloc: Global, count: usize) -> Result<Vec<[u8; 18]>, Fail> {
     let mut nonces: Vec<[u8; 18]> = Vec::new(alloc);
-    for _ in servers {
+    for _ in 0..count {
         nonces.push([0; 18])?;
     }
-    let mut dialer = MemoryDialer::new(links_to(alloc, servers)?, fail_dials);
-    let started = Pool::start(alloc, &config, nonces.as_slice(), 10_000, &mut dialer);
-    Ok(match started {
-        Ok(pool) => Ok(pool),
-        Err(error) => Err(error_name(&error)),
-    })
+    Ok(nonces)
+}
+
+// A pool with one session for each server.
+pub(crate) fn start(alloc: Global, servers: &[&[&[u8]]]) -> Result<Pool<MemoryLink>, Fail> {
+    let mut dialer = dialer_over(alloc, servers, Listed::new(alloc))?;
+    match try_start(alloc, servers, &mut dialer)?.ok() {
+        Some(pool) => Ok(pool),
+        None => Err(Fail::new(format_args!("no pool"))),
+    }
+}
+
+// What comes of some leases, one after the other.
+fn leases_told(alloc: Global, pool: &mut Pool<MemoryLink>, leases: usize) -> Result<String, Fail> {
+    let request = Request::simple(alloc, "SELECT 1")?;
+    let mut text = String::new(alloc);
+    for _ in 0..leases {
+        tell(&mut text, lease_once(pool, &request))?;
+    }
+    Ok(text)
 }
 
 fn check<R: Abort>(rt: &R, alloc: Global, case: Case) -> Result<(), Fail> {
     let (servers, leases, wanted) = case;
-    let request = Request::simple(alloc, "SELECT 1")?;
-    let mut text = String::new(alloc);
-    match start(alloc, servers, Listed::new(alloc))? {
-        Ok(mut pool) => {
-            assert_eq!(rt; pool.capacity(), servers.len());
-            assert_eq!(rt; pool.idle(), servers.len());
-            for _ in 0..leases {
-                tell(&mut text, lease_once(alloc, &mut pool, &request))?;
-            }
-        }
-        Err(name) => text.push_str(name)?,
-    }
-    assert_eq!(rt; text.as_str(), wanted);
+    let mut pool = start(alloc, servers)?;
+    assert_eq!(rt; pool.capacity(), servers.len());
+    assert_eq!(rt; pool.idle(), servers.len());
+    let told = leases_told(alloc, &mut pool, leases);
+    drop(pool);
+    assert_eq!(rt; told?.as_str(), wanted);
     Ok(())
 }
 
@@ -251,17 +271,22 @@ fn sessions_are_lent_in_turn(rt: HostRuntime) -> Result<(), Fail> {
     Ok(())
 }
 
+fn start_name(started: &PgWireClientResult<Pool<MemoryLink>>) -> &'static str {
+    match started {
+        Ok(_) => "started",
+        Err(error) => error_name(error),
+    }
+}
+
 // Why no pool is started.
 fn refused(alloc: Global, servers: &[&[&[u8]]], dial: u64) -> Result<&'static str, Fail> {
     let mut fail_dials = Listed::new(alloc);
     fail_dials.push(dial)?;
-    match start(alloc, servers, fail_dials)? {
-        Ok(pool) => {
-            drop(pool);
-            Ok("started")
-        }
-        Err(name) => Ok(name),
-    }
+    let mut dialer = dialer_over(alloc, servers, fail_dials)?;
+    let started = try_start(alloc, servers, &mut dialer)?;
+    let name = start_name(&started);
+    drop(started);
+    Ok(name)
 }
 
 #[test]
@@ -274,25 +299,33 @@ fn the_first_failing_login_is_told(rt: HostRuntime) -> Result<(), Fail> {
 }
 
 // Lends two sessions at once, and gives them back in the other order.
-fn lent_together(alloc: Global, pool: &mut Pool<MemoryLink>) -> [&'static str; 2] {
+fn lent_together(pool: &mut Pool<MemoryLink>) -> [&'static str; 2] {
     match pool.lend() {
         Ok(first) => match pool.lend() {
             Ok(second) => {
-                let returned = pool.give_back(alloc, second);
+                let returned = pool.give_back(second);
                 let second_ends = returned_name(&returned);
                 drop(returned);
-                let returned = pool.give_back(alloc, first);
+                let returned = pool.give_back(first);
                 let first_ends = returned_name(&returned);
                 drop(returned);
                 [second_ends, first_ends]
             }
             Err(_) => {
-                drop(pool.give_back(alloc, first));
+                drop(pool.give_back(first));
                 ["none", ""]
             }
         },
         Err(_) => ["none", ""],
     }
+}
+
+fn check_turns<R: Abort>(rt: &R, pool: &mut Pool<MemoryLink>, request: &Request) {
+    assert_eq!(rt; lent_together(pool), ["kept", "kept"]);
+    let words = lease_once(pool, request);
+    assert_eq!(rt; words, ["3", " behind a reset", "remote", "kept"]);
+    let words = lease_once(pool, request);
+    assert_eq!(rt; words, ["4", " behind a reset", "responses", "kept"]);
 }
 
 #[test]
@@ -303,15 +336,7 @@ fn the_longest_idle_is_lent(rt: HostRuntime) -> Result<(), Fail> {
         &[DISCARDED, IDLE, DONE, IDLE, DISCARDED, IDLE],
         &[DISCARDED, IDLE, ERROR, IDLE, DISCARDED, IDLE],
     ];
-    match start(alloc, servers, Listed::new(alloc))? {
-        Ok(mut pool) => {
-            assert_eq!(rt; lent_together(alloc, &mut pool), ["kept", "kept"]);
-            let words = lease_once(alloc, &mut pool, &request);
-            assert_eq!(rt; words, ["3", " behind a reset", "remote", "kept"]);
-            let words = lease_once(alloc, &mut pool, &request);
-            assert_eq!(rt; words, ["4", " behind a reset", "responses", "kept"]);
-        }
-        Err(name) => assert_eq!(rt; name, "started"),
-    }
+    let mut pool = start(alloc, servers)?;
+    check_turns(&rt, &mut pool, &request);
     Ok(())
 }

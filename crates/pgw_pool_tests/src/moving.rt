@@ -1,10 +1,11 @@
 //! Sessions that leave a pool, and that come into one, over links in memory.
 
 use crate::failing::{
-    Ended, Numbers, Server, cause_word, check_leases, dialer_to, numbers, pool_over,
+    Ended, Numbers, Server, Setting, cause_word, check_leases, dialer_to, new_setting, numbers,
+    pool_over,
 };
 use crate::lending::{DISCARDED, DONE, ERROR, IDLE, OPEN, WELCOME, error_name};
-use pgw_client::{Config, MemoryDialer, MemoryLink, Request};
+use pgw_client::{Config, MemoryDialer, MemoryLink};
 use pgw_pool::{DropCause, Pool, Spare};
 use std::alloc::Global;
 use std::process::Abort;
@@ -38,10 +39,10 @@ fn lost(pool: &mut Pool<MemoryLink>, cause: DropCause) -> Moved {
 type Reset = (u64, Numbers, Moved);
 
 // Takes a lease, and resets it.
-fn reset_once(alloc: Global, pool: &mut Pool<MemoryLink>) -> Reset {
+fn reset_once(pool: &mut Pool<MemoryLink>) -> Reset {
     match pool.lend() {
         Ok(lease) => {
-            let ended = lease.reset(alloc);
+            let ended = lease.reset();
             let between = numbers(pool);
             match ended {
                 Ok(spare) => (pool.lent(), between, put_back(pool, spare)),
@@ -74,7 +75,7 @@ fn a_session_leaves_its_pool_for_a_reset(rt: HostRuntime) -> Result<(), Fail> {
     let config = Config::parse(alloc, "user=bob host=a")?;
     let mut pool = pool_over(alloc, &config, RESETTING)?;
     for wanted in RESETS {
-        assert_eq!(rt; reset_once(alloc, &mut pool), *wanted);
+        assert_eq!(rt; reset_once(&mut pool), *wanted);
     }
     Ok(())
 }
@@ -138,15 +139,26 @@ fn check_connected<R: Abort>(
     }
 }
 
+fn connect_late<R: Abort>(
+    rt: &R,
+    alloc: Global,
+    config: &Config,
+    pool: &mut Pool<MemoryLink>,
+) -> Result<(), Fail> {
+    let mut dialer = dialer_to(alloc, LATE, 1)?;
+    check_connected(rt, alloc, config, pool, &mut dialer);
+    Ok(())
+}
+
+fn lose_and_connect<R: Abort>(rt: &R, alloc: Global, setting: &Setting) -> Result<(), Fail> {
+    let mut pool = pool_over(alloc, &setting.config, &[(&[WELCOME], 0, 0)])?;
+    check_leases(rt, &mut pool, &setting.request, LOST);
+    let connected = connect_late(rt, alloc, &setting.config, &mut pool);
+    check_leases(rt, &mut pool, &setting.request, LENT);
+    connected
+}
+
 #[test]
 fn a_session_comes_into_a_pool(rt: HostRuntime) -> Result<(), Fail> {
-    let alloc = rt.alloc();
-    let config = Config::parse(alloc, "user=bob host=a")?;
-    let request = Request::simple(alloc, "SELECT 1")?;
-    let mut dialer = dialer_to(alloc, LATE, 1)?;
-    let mut pool = pool_over(alloc, &config, &[(&[WELCOME], 0, 0)])?;
-    check_leases(&rt, alloc, &mut pool, &request, LOST);
-    check_connected(&rt, alloc, &config, &mut pool, &mut dialer);
-    check_leases(&rt, alloc, &mut pool, &request, LENT);
-    Ok(())
+    lose_and_connect(&rt, rt.alloc(), &new_setting(rt.alloc())?)
 }

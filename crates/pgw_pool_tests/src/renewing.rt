@@ -24,13 +24,13 @@ fn unfit_name(unfit: &Unfit) -> &'static str {
 
 // Takes a lease of a session that answers, and gives it back: its number, and whether the empty query
 // was its last one and it is idle again; or why none is lent.
-fn checked_once(alloc: Global, pool: &mut Pool<MemoryLink>) -> (u64, &'static str) {
-    match pool.lend_checked(alloc) {
+fn checked_once(pool: &mut Pool<MemoryLink>) -> (u64, &'static str) {
+    match pool.lend_checked() {
         Ok(lease) => {
             let number = lease.number();
             let asked = lease.link().written().ends_with(CHECK);
             let before = pool.idle();
-            drop(pool.give_back(alloc, lease));
+            drop(pool.give_back(lease));
             let is_kept = asked && before < pool.idle();
             (number, if is_kept { "kept" } else { "lost" })
         }
@@ -65,26 +65,22 @@ fn a_session_that_answers_is_lent(rt: HostRuntime) -> Result<(), Fail> {
         &[ERROR, IDLE],
         &[EMPTY, IDLE, DISCARDED, IDLE, EMPTY, IDLE],
     ];
-    match start(alloc, servers, Listed::new(alloc))? {
-        Ok(mut pool) => {
-            for wanted in CHECKED {
-                assert_eq!(rt; checked_once(alloc, &mut pool), *wanted);
-            }
-            assert_eq!(rt; pool.dropped(), 5);
-            assert_eq!(rt; pool.out(), 0);
-            assert_eq!(rt; pool.connected(), 5);
-        }
-        Err(name) => assert_eq!(rt; name, "started"),
+    let mut pool = start(alloc, servers)?;
+    for wanted in CHECKED {
+        assert_eq!(rt; checked_once(&mut pool), *wanted);
     }
+    assert_eq!(rt; pool.dropped(), 5);
+    assert_eq!(rt; pool.out(), 0);
+    assert_eq!(rt; pool.connected(), 5);
     Ok(())
 }
 
 // Lends a session and gives it back, and says whether it is idle again.
-fn lent_once(alloc: Global, pool: &mut Pool<MemoryLink>) -> bool {
+fn lent_once(pool: &mut Pool<MemoryLink>) -> bool {
     match pool.lend() {
         Ok(lease) => {
             let before = pool.idle();
-            drop(pool.give_back(alloc, lease));
+            drop(pool.give_back(lease));
             before < pool.idle()
         }
         Err(_) => false,
@@ -92,35 +88,41 @@ fn lent_once(alloc: Global, pool: &mut Pool<MemoryLink>) -> bool {
 }
 
 // Connects a session in place of one that was lost, if one was.
-fn refilled(
-    alloc: Global,
+fn refilled(pool: &mut Pool<MemoryLink>, config: &Config, dialer: &mut MemoryDialer) -> bool {
+    pool.idle() + pool.out() < pool.capacity()
+        && pool.refill(config, [1; 18], 10_000, dialer).is_ok()
+}
+
+fn check_replaced<R: Abort>(
+    rt: &R,
+    config: &Config,
     pool: &mut Pool<MemoryLink>,
     dialer: &mut MemoryDialer,
-) -> Result<bool, Fail> {
+) {
+    assert_eq!(rt; refilled(pool, config, dialer), false);
+    assert_eq!(rt; lent_once(pool), false);
+    assert_eq!(rt; refilled(pool, config, dialer), true);
+    assert_eq!(rt; pool.connected(), 2);
+    assert_eq!(rt; lent_once(pool), true);
+    assert_eq!(rt; refilled(pool, config, dialer), false);
+}
+
+fn lose_and_replace<R: Abort>(
+    rt: &R,
+    alloc: Global,
+    pool: &mut Pool<MemoryLink>,
+) -> Result<(), Fail> {
     let config = Config::parse(alloc, "user=bob host=a")?;
-    if pool.idle() + pool.out() < pool.capacity() {
-        return Ok(pool.refill(alloc, &config, [1; 18], 10_000, dialer).is_ok());
-    }
-    Ok(false)
+    let late: &[&[&[u8]]] = &[&[DISCARDED, IDLE]];
+    let mut dialer = MemoryDialer::new(links_to(alloc, late)?, Listed::new(alloc));
+    check_replaced(rt, &config, pool, &mut dialer);
+    Ok(())
 }
 
 #[test]
 fn a_lost_session_is_replaced(rt: HostRuntime) -> Result<(), Fail> {
-    let alloc = rt.alloc();
-    let late: &[&[&[u8]]] = &[&[DISCARDED, IDLE]];
-    let mut dialer = MemoryDialer::new(links_to(alloc, late)?, Listed::new(alloc));
-    match start(alloc, &[&[]], Listed::new(alloc))? {
-        Ok(mut pool) => {
-            assert_eq!(rt; refilled(alloc, &mut pool, &mut dialer)?, false);
-            assert_eq!(rt; lent_once(alloc, &mut pool), false);
-            assert_eq!(rt; refilled(alloc, &mut pool, &mut dialer)?, true);
-            assert_eq!(rt; pool.connected(), 2);
-            assert_eq!(rt; lent_once(alloc, &mut pool), true);
-            assert_eq!(rt; refilled(alloc, &mut pool, &mut dialer)?, false);
-        }
-        Err(name) => assert_eq!(rt; name, "started"),
-    }
-    Ok(())
+    let mut pool = start(rt.alloc(), &[&[]])?;
+    lose_and_replace(&rt, rt.alloc(), &mut pool)
 }
 
 // Whether the link that was closed last was told of it.
@@ -139,17 +141,15 @@ fn no_links(alloc: Global) -> Result<MemoryDialer, Fail> {
 fn a_pool_takes_leave_of_its_sessions(rt: HostRuntime) -> Result<(), Fail> {
     let alloc = rt.alloc();
     let mut dialer = no_links(alloc)?;
-    match start(alloc, &[&[], &[]], Listed::new(alloc))? {
-        Ok(pool) => assert!(rt; pool.close(&mut dialer).is_ok()),
-        Err(name) => assert_eq!(rt; name, "started"),
-    }
+    let pool = start(alloc, &[&[], &[]])?;
+    assert!(rt; pool.close(&mut dialer).is_ok());
     assert!(rt; was_told(&dialer));
     Ok(())
 }
 
 // The process number by which a lease's query would be canceled.
-fn number_to_cancel(alloc: Global, lease: &Lease<MemoryLink>) -> i32 {
-    match lease.cancel_token(alloc) {
+fn number_to_cancel(lease: &Lease<MemoryLink>) -> i32 {
+    match lease.cancel_token() {
         Ok(token) => token.process_id,
         Err(_) => 0,
     }
@@ -157,35 +157,34 @@ fn number_to_cancel(alloc: Global, lease: &Lease<MemoryLink>) -> i32 {
 
 // Lends a session, asks in it, and retires it.
 fn retired(
-    alloc: Global,
     pool: &mut Pool<MemoryLink>,
     request: &Request,
     dialer: &mut MemoryDialer,
 ) -> (i32, bool) {
     match pool.lend() {
         Ok(mut lease) => {
-            drop(lease.run(alloc, request));
-            let number = number_to_cancel(alloc, &lease);
+            drop(lease.run(request));
+            let number = number_to_cancel(&lease);
             (number, pool.retire(lease, dialer).is_ok())
         }
         Err(_) => (0, false),
     }
 }
 
+fn retire_one<R: Abort>(rt: &R, alloc: Global, dialer: &mut MemoryDialer) -> Result<(), Fail> {
+    let request = Request::simple(alloc, "SELECT 1")?;
+    let mut pool = start(alloc, &[&[DONE, IDLE]])?;
+    let ends = retired(&mut pool, &request, dialer);
+    assert_eq!(rt; ends, (-1, true));
+    assert_eq!(rt; pool.idle(), 0);
+    assert_eq!(rt; pool.dropped(), 1);
+    Ok(())
+}
+
 #[test]
 fn a_retired_session_is_closed(rt: HostRuntime) -> Result<(), Fail> {
-    let alloc = rt.alloc();
-    let request = Request::simple(alloc, "SELECT 1")?;
-    let mut dialer = no_links(alloc)?;
-    match start(alloc, &[&[DONE, IDLE]], Listed::new(alloc))? {
-        Ok(mut pool) => {
-            let ends = retired(alloc, &mut pool, &request, &mut dialer);
-            assert_eq!(rt; ends, (-1, true));
-            assert_eq!(rt; pool.idle(), 0);
-            assert_eq!(rt; pool.dropped(), 1);
-        }
-        Err(name) => assert_eq!(rt; name, "started"),
-    }
+    let mut dialer = no_links(rt.alloc())?;
+    retire_one(&rt, rt.alloc(), &mut dialer)?;
     assert!(rt; was_told(&dialer));
     Ok(())
 }

@@ -4,16 +4,17 @@ use crate::lending::{DISCARDED, IDLE, links_to, returned_name, start};
 use pgw_client::{Config, Listed, MemoryDialer, MemoryLink, PgWireClientResult};
 use pgw_pool::{LeaseEnd, Pool};
 use std::alloc::Global;
+use std::process::Abort;
 use std::test::Fail;
 
 // Lends a session and gives it back: the lease's number, how many its session has had, and what
 // became of it.
-fn counted_once(alloc: Global, pool: &mut Pool<MemoryLink>) -> (u64, u64, &'static str) {
+fn counted_once(pool: &mut Pool<MemoryLink>) -> (u64, u64, &'static str) {
     match pool.lend() {
         Ok(lease) => {
             let number = lease.number();
             let leases = lease.leases();
-            let returned = pool.give_back(alloc, lease);
+            let returned = pool.give_back(lease);
             let name = returned_name(&returned);
             drop(returned);
             (number, leases, name)
@@ -40,13 +41,9 @@ fn leases_are_counted(rt: HostRuntime) -> Result<(), Fail> {
         &[DISCARDED, IDLE, DISCARDED, IDLE, DISCARDED, IDLE],
         &[DISCARDED, IDLE],
     ];
-    match start(alloc, servers, Listed::new(alloc))? {
-        Ok(mut pool) => {
-            for wanted in COUNTED {
-                assert_eq!(rt; counted_once(alloc, &mut pool), *wanted);
-            }
-        }
-        Err(name) => assert_eq!(rt; name, "started"),
+    let mut pool = start(alloc, servers)?;
+    for wanted in COUNTED {
+        assert_eq!(rt; counted_once(&mut pool), *wanted);
     }
     Ok(())
 }
@@ -61,7 +58,6 @@ fn end_name(end: &LeaseEnd) -> &'static str {
 
 // Lends a session, and ends the lease within so many: how many its session has had, and how it ended.
 fn ended_once(
-    alloc: Global,
     pool: &mut Pool<MemoryLink>,
     most: u64,
     dialer: &mut MemoryDialer,
@@ -69,7 +65,7 @@ fn ended_once(
     match pool.lend() {
         Ok(lease) => {
             let leases = lease.leases();
-            let end = pool.give_back_within(alloc, lease, most, dialer);
+            let end = pool.give_back_within(lease, most, dialer);
             let name = end_name(&end);
             drop(end);
             (leases, name)
@@ -88,6 +84,13 @@ const ENDED: &[(u64, &str)] = &[
     (0, "none"),
 ];
 
+fn check_ends<R: Abort>(rt: &R, pool: &mut Pool<MemoryLink>, dialer: &mut MemoryDialer) {
+    for wanted in ENDED {
+        assert_eq!(rt; ended_once(pool, 3, dialer), *wanted);
+    }
+    assert_eq!(rt; pool.dropped(), 2);
+}
+
 #[test]
 fn leases_end_within_a_count(rt: HostRuntime) -> Result<(), Fail> {
     let alloc = rt.alloc();
@@ -96,21 +99,13 @@ fn leases_end_within_a_count(rt: HostRuntime) -> Result<(), Fail> {
         &[DISCARDED, IDLE, DISCARDED, IDLE, DISCARDED, IDLE],
         &[DISCARDED, IDLE],
     ];
-    match start(alloc, servers, Listed::new(alloc))? {
-        Ok(mut pool) => {
-            for wanted in ENDED {
-                assert_eq!(rt; ended_once(alloc, &mut pool, 3, &mut dialer), *wanted);
-            }
-            assert_eq!(rt; pool.dropped(), 2);
-        }
-        Err(name) => assert_eq!(rt; name, "started"),
-    }
+    let mut pool = start(alloc, servers)?;
+    check_ends(&rt, &mut pool, &mut dialer);
     Ok(())
 }
 
 // What docs/POOL.md has in place of each `give_back`: how many leases the session has had.
 fn renewed(
-    alloc: Global,
     pool: &mut Pool<MemoryLink>,
     most: u64,
     config: &Config,
@@ -121,9 +116,9 @@ fn renewed(
             let leases = lease.leases();
             let nonce = [1; 18];
             let limit = 10_000;
-            drop(pool.give_back_within(alloc, lease, most, dialer));
+            drop(pool.give_back_within(lease, most, dialer));
             if pool.idle() + pool.out() < pool.capacity() {
-                pool.refill(alloc, config, nonce, limit, dialer)?;
+                pool.refill(config, nonce, limit, dialer)?;
             }
             Ok(leases)
         }
@@ -134,22 +129,30 @@ fn renewed(
 // How many leases the session has had, and how many were connected by then.
 const RENEWED: &[(u64, u64)] = &[(1, 1), (2, 2), (1, 2), (2, 3)];
 
-#[test]
-fn a_session_that_grew_old_is_replaced(rt: HostRuntime) -> Result<(), Fail> {
-    let alloc = rt.alloc();
+fn check_renewed<R: Abort>(
+    rt: &R,
+    pool: &mut Pool<MemoryLink>,
+    config: &Config,
+    dialer: &mut MemoryDialer,
+) {
+    for (leases, connected) in RENEWED {
+        let was = renewed(pool, 2, config, dialer);
+        assert_eq!(rt; was.unwrap_or(0), *leases);
+        assert_eq!(rt; pool.connected(), *connected);
+    }
+    assert_eq!(rt; pool.dropped(), 2);
+}
+
+fn renew<R: Abort>(rt: &R, alloc: Global, pool: &mut Pool<MemoryLink>) -> Result<(), Fail> {
     let config = Config::parse(alloc, "user=bob host=a")?;
     let late: &[&[&[u8]]] = &[&[DISCARDED, IDLE], &[]];
     let mut dialer = MemoryDialer::new(links_to(alloc, late)?, Listed::new(alloc));
-    match start(alloc, &[&[DISCARDED, IDLE]], Listed::new(alloc))? {
-        Ok(mut pool) => {
-            for (leases, connected) in RENEWED {
-                let was = renewed(alloc, &mut pool, 2, &config, &mut dialer);
-                assert_eq!(rt; was.unwrap_or(0), *leases);
-                assert_eq!(rt; pool.connected(), *connected);
-            }
-            assert_eq!(rt; pool.dropped(), 2);
-        }
-        Err(name) => assert_eq!(rt; name, "started"),
-    }
+    check_renewed(rt, pool, &config, &mut dialer);
     Ok(())
+}
+
+#[test]
+fn a_session_that_grew_old_is_replaced(rt: HostRuntime) -> Result<(), Fail> {
+    let mut pool = start(rt.alloc(), &[&[DISCARDED, IDLE]])?;
+    renew(&rt, rt.alloc(), &mut pool)
 }

@@ -4,7 +4,7 @@ ghost use Rattle.std.specs.Prelude.{◌≡◌, vec_len, IfOk};
 use std::alloc::{AllocError, Global};
 use std::sync::Condvar;
 
-/// A call wakes only those who sleep on the same bell, so that not all who wait are woken for one.
+// A call wakes only those who sleep on the same bell, so that not all who wait are woken for one.
 const BELLS: usize = 16;
 
 #[derive(Drop)]

@@ -1,5 +1,5 @@
 //! A stock, its things that are out, and those who wait.
-ghost use Rattle.std.specs.Prelude.{◌≡◌, ◌+◌, ◌-◌, ◌<◌, ◌≤◌, ◌↔◌, IsTrue, IfOk, IfErr, IfSome, OnErr, IfNone, MatchBool, MatchOption, [], ◌⊎◌};
+ghost use Rattle.std.specs.Prelude.{◌≡◌, ◌+◌, ◌-◌, ◌<◌, ◌≤◌, ◌↔◌, IsTrue, IfOk, IfErr, IfSome, OnErr, IfNone, MatchBool, [], ◌⊎◌};
 ghost use Rattle.pgw_pool_turns.specs.Rows.{JoinsNone};
 ghost use Rattle.pgw_pool_turns.specs.Standings.{IsFree, IsTurn, with_next_turn, gone, lost, claimed, HasPlace, numbers_of, new_standing};
 ghost use Rattle.pgw_pool_turns.specs.Desks.{desk_held, IsDeskCounted, DeskLendsFirst, TakesBack, TakesNone, LosesOne};

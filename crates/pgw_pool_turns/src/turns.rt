@@ -1,7 +1,6 @@
 //! A desk that threads share.
 ghost use Rattle.std.specs.Prelude.{◌≡◌, ◌≢◌, ◌+◌, ◌≤◌, IfOk, IfErr, IsTrue, false, MatchBool};
 ghost use Rattle.std.specs.Sync.Mutex.{mutex_guard_value};
-ghost use Rattle.pgw_pool_turns.specs.Rows.{JoinsNone};
 ghost use Rattle.pgw_pool_turns.specs.Standings.{IsTurn, HasPlace, numbers_of};
 ghost use Rattle.pgw_pool_turns.specs.Desks.{TurnStock, IsDeskCounted, refusal_for, TakesBack, TakesNone, Lending};
 

@@ -338,7 +338,7 @@ asked_by input (backend.ReadyForQuery ready) es r =
 asked_by input (backend.Authentication authentication.Ok) es r = absurd r
 asked_by input m es r = absurd r
 
-taken_more : (k : Kind) (rows next : Bool) (m : Backend) (es : List Event) → role k rows m ≡ Taken next
+pub taken_more : (k : Kind) (rows next : Bool) (m : Backend) (es : List Event) → role k rows m ≡ Taken next
     → IsAnswer k next es → IsAnswer k rows (Got m ∷ es)
 taken_more k rows next m es is r =
     record {

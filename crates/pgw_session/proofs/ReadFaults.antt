@@ -18,7 +18,7 @@ use Rattle.pgw_startup.specs.Login.{by_code, authentication_of, parameter_status
 use Rattle.pgw_startup.specs.Response.{ssl_reply, gss_reply, ssl_response_of, gss_enc_response_of}
 use Rattle.pgw_query.specs.Rows.{status_of_byte, ready_for_query_of, command_complete_of, empty_query_response_of, codes_at, error_response_of, notice_response_of, field_at, row_description_of, data_row_of, parameter_description_of, no_data_of, notification_response_of}
 use Rattle.pgw_ext.specs.Rows.{parse_complete_of, bind_complete_of, close_complete_of, portal_suspended_of}
-use Rattle.pgw_copy.specs.Rows.{copy_data_of, copy_done_of, copy_fail_of, columns_at, copy_in_response_of, copy_out_response_of, copy_both_response_of}
+use Rattle.pgw_copy.specs.Rows.{copy_data_of, copy_done_of, copy_fail_of, columns_at, copy_response_of}
 use Rattle.pgw_backend.specs.declared.backend.PgWireBackendMessage.{PgWireBackendMessage}
 use Rattle.pgw_backend.specs.Backend.{copy_by, extended_by, query_by, backend_by, backend_front}
 use Rattle.pgw_backend.specs.Front as message
@@ -270,17 +270,9 @@ columns_fine bytes =
     (λ c. then (list_at (int_at w16) 2 (extended_count c.0) c.1) _
     (list_fine (int_at w16) (int_fine w16) 2 (extended_count c.0) c.1) (λ k. tt)))
 
-copy_in_fine : (ctx : DecodeContext) → IsFine (copy_in_response_of ctx)
-unfolding copy_in_response_of
-copy_in_fine ctx bytes = all_fine _ (made_fine _ columns_at columns_fine bytes)
-
-copy_out_fine : (ctx : DecodeContext) → IsFine (copy_out_response_of ctx)
-unfolding copy_out_response_of
-copy_out_fine ctx bytes = all_fine _ (made_fine _ columns_at columns_fine bytes)
-
-copy_both_fine : (ctx : DecodeContext) → IsFine (copy_both_response_of ctx)
-unfolding copy_both_response_of
-copy_both_fine ctx bytes = all_fine _ (made_fine _ columns_at columns_fine bytes)
+copy_response_fine : (byte : ℕ) (ctx : DecodeContext) → IsFine (copy_response_of byte ctx)
+unfolding copy_response_of
+copy_response_fine byte ctx bytes = all_fine _ (made_fine _ columns_at columns_fine bytes)
 
 -- messages without a body
 empty_query_fine : (ctx : DecodeContext) → IsFine (empty_query_response_of ctx)
@@ -359,11 +351,11 @@ copy_by_fine byte ctx bytes =
     (either (byte == 99) _ _ (as_one_fine _ (Typed 99) tt 10000 (copy_done_of ctx) (copy_done_fine ctx) bytes)
     (either (byte == 102) _ _ (as_one_fine _ (Typed 102) tt 10000 (copy_fail_of ctx) (copy_fail_fine ctx) bytes)
     (either (byte == 71) _ _
-    (as_one_fine _ (Typed 71) tt 30000 (copy_in_response_of ctx) (copy_in_fine ctx) bytes)
+    (as_one_fine _ (Typed 71) tt 30000 (copy_response_of 71 ctx) (copy_response_fine 71 ctx) bytes)
     (either (byte == 72) _ _
-    (as_one_fine _ (Typed 72) tt 30000 (copy_out_response_of ctx) (copy_out_fine ctx) bytes)
+    (as_one_fine _ (Typed 72) tt 30000 (copy_response_of 72 ctx) (copy_response_fine 72 ctx) bytes)
     (either (byte == 87) _ _
-    (as_one_fine _ (Typed 87) tt 30000 (copy_both_response_of ctx) (copy_both_fine ctx) bytes) tt)))))
+    (as_one_fine _ (Typed 87) tt 30000 (copy_response_of 87 ctx) (copy_response_fine 87 ctx) bytes) tt)))))
 
 extended_by_fine : (byte : ℕ) (ctx : DecodeContext) (bytes : List ℕ) → Fine (extended_by byte ctx bytes)
 extended_by_fine byte ctx bytes =

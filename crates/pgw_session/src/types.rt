@@ -42,7 +42,7 @@ pub enum Request {
     Query(Text, Listed<u32>, Listed<Option<Octets>>),
 }
 
-/// A name, or none where the text is empty.
+// A name, or none where the text is empty.
 fn named(alloc: Global, name: &str) -> Result<Option<Text>, OutOfMemory>
     ensures { IfOk result (λ o. o ≡ name_of name.now) }
 {
@@ -52,7 +52,7 @@ fn named(alloc: Global, name: &str) -> Result<Option<Text>, OutOfMemory>
     Ok(Some(Text::from_str(alloc, name)?))
 }
 
-/// A parameter's text as its bytes.
+// A parameter's text as its bytes.
 fn parameter_of(alloc: Global, value: Option<&str>) -> Result<Option<Octets>, OutOfMemory>
     ensures { IfOk result (λ o. o ≡ option_copied value.entry) }
 {
