@@ -1,5 +1,5 @@
 //! What stands behind a handle.
-ghost use Rattle.std.specs.Prelude.{◌≡◌, [], None, IsTrue, IfOk};
+ghost use Rattle.std.specs.Prelude.{None};
 ghost use Rattle.hothummei_c.specs.Codes.{code_of};
 ghost use Rattle.hothummei_c.specs.Session.{HandleFails, IsNewSession};
 

@@ -1,5 +1,5 @@
 //! Bytes that came, with the messages that are whole then.
-ghost use Rattle.std.specs.Prelude.{◌≡◌, ◌++◌, IfErr};
+ghost use Rattle.std.specs.Prelude.{◌++◌, IfErr};
 ghost use Rattle.pgw_dialogue.specs.Input.{input_of};
 ghost use Rattle.pgw_dialogue.specs.Steps.{TookInbox};
 ghost use Rattle.pgw_dialogue.specs.Wire.{IsOwn};

@@ -1,5 +1,5 @@
 //! Bytes that are handed out, by where they lie.
-ghost use Rattle.std.specs.Prelude.{◌≡◌, length};
+ghost use Rattle.std.specs.Prelude.{◌≡◌};
 ghost use Rattle.std.specs.Ptr.{as_ptr};
 ghost use Rattle.hothummei_c.specs.Values.{IsNull, HoldsCBytes};
 

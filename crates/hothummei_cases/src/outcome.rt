@@ -23,7 +23,7 @@ pub struct Outcome {
 }
 
 impl Outcome {
-    /// The bytes sent to the server.
+    // The bytes sent to the server.
     fn sent(&self) -> &[u8] {
         match self.dialer.closed() {
             Some(link) => link.written(),

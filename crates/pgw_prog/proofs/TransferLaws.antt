@@ -1,18 +1,10 @@
 -- Parts of a text that is read or written in pieces.
-use Rattle.std.proofs.Common.{◌≡◌, ◌<◌, ◌≤◌, ℕ, ◌+◌, ◌-◌, List, [], ◌++◌, length, take, drop, Option, Some, None, arith, ◌∙◌, ap, sym, refl, length-drop, append_assoc}
-use Rattle.std.proofs.lemmas.List.{append-nil, append_cancel_left, length-append, nil_from_length, take_all}
-use Rattle.std.proofs.Math.Seq.{take-add}
+use Rattle.std.proofs.Common.{◌≡◌, ◌<◌, ◌≤◌, ℕ, ◌+◌, ◌-◌, List, [], ◌++◌, length, take, drop, Option, Some, None, arith, ◌∙◌, ap, sym, refl, append_assoc}
+use Rattle.std.proofs.lemmas.List.{append-nil, append_cancel_left, length-append, nil_from_length}
 use Rattle.std.specs.Io.KnownBytes.{Consumes, IsAtEnd, Keeps}
+use Rattle.pgw_link.proofs.LogLaws.{take_on, consumes_on}
 use Rattle.pgw_link.specs.Stream.{SourceTape, SinkTape, DrewSource, NotDrawn, Poured}
 use Rattle.pgw_prog.specs.Transfer.{SourceSpan, TookFront, TookWhole, TookTooMany}
-
--- the first bytes, and then some of the range behind them
-pub take_on : (text : List ℕ) (at n : ℕ)
-    → take (at + n) text ≡ take at text ++ take n (take (length text - at) (drop at text))
-take_on text at n =
-    take-add at n text
-    ∙ ap (λ (r : List ℕ). take at text ++ take n r)
-    (sym (take_all (length text - at) (drop at text) (omega (arith, length-drop at text))))
 
 -- a write puts the next of them behind those that were written
 pub put_on : {mid new : SinkTape} (old : SinkTape) (text : List ℕ) (at n : ℕ)
@@ -24,13 +16,6 @@ put_on old text at n put was =
     ∙ ap (λ (w : List ℕ). old.wrote ++ w) (sym (take_on text at n))
 
 -- ---- known bytes over several reads
-
-consumes_on : (a b c : Option (List ℕ)) (xs ys : List ℕ) → Consumes a b xs → Consumes b c ys
-    → Consumes a c (xs ++ ys)
-consumes_on None b c xs ys h k = tt
-consumes_on (Some p) None c xs ys h k = absurd h
-consumes_on (Some p) (Some q) None xs ys h k = absurd k
-consumes_on (Some p) (Some q) (Some r) xs ys h k = h ∙ ap (λ (z : List ℕ). xs ++ z) k ∙ sym (append_assoc xs ys r)
 
 consumes_kept : (a b c : Option (List ℕ)) (xs : List ℕ) → Consumes a b xs → Keeps b c → Consumes a c xs
 consumes_kept None b c xs h k = tt

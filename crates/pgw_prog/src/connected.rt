@@ -1,5 +1,5 @@
 //! The session with the server that a connection text names.
-ghost use Rattle.std.specs.Prelude.{◌≡◌, ◌≢◌, ◌≤◌, IfOk, OnOk, IsErrOf};
+ghost use Rattle.std.specs.Prelude.{◌≢◌, ◌≤◌, IfOk, OnOk, IsErrOf};
 ghost use Rattle.pgw_backend.specs.declared.client_error.PgWireClientError.TheVariants as client;
 ghost use Rattle.pgw_prog.specs.declared.command.Command.TheVariants as kind;
 ghost use Rattle.pgw_prog.specs.Connected.{input_for, dial_span, PrintsConnection, LeavesDialer, LeavesFor, PrintsAtAddress, IsDialOutcome};

@@ -1,7 +1,7 @@
 //! The session of a script.
-ghost use Rattle.std.specs.Prelude.{◌≡◌, ◌≢◌, ◌<◌, ◌≤◌, ◌+◌, ◌*◌, ◌||◌, nat_lt, [], length, None, Ok, Err, IfOk, OnOk, IsErrOf};
+ghost use Rattle.std.specs.Prelude.{◌≡◌, ◌≢◌, ◌<◌, ◌≤◌, ◌+◌, ◌*◌, ◌||◌, nat_lt, [], length, Ok, Err, IfOk, OnOk, IsErrOf};
 ghost use Rattle.pgw_backend.specs.declared.client_error.PgWireClientError.TheVariants as client;
-ghost use Rattle.pgw_prog.specs.Held.{InCuts, exit_status as status_for, Says, PrintsSession, PrintsOutcome, Holds};
+ghost use Rattle.pgw_prog.specs.Held.{exit_status as status_for, Says, PrintsSession, PrintsOutcome, Holds};
 ghost use Rattle.pgw_session.specs.Input.{input_with};
 ghost use Rattle.pgw_link.specs.Calls.{is_reached, call_number};
 ghost use Rattle.pgw_link.specs.Memory.{memory_tape, memory_left, faults_of, making_of};

@@ -1,5 +1,5 @@
 //! Passwords from a file.
-ghost use Rattle.std.specs.Prelude.{◌≡◌, ◌++◌, IfOk, IfErr, OnOk, codes};
+ghost use Rattle.std.specs.Prelude.{◌≡◌, IfOk, IfErr, OnOk, codes};
 ghost use Rattle.std.specs.Option.{option_copied};
 ghost use Rattle.pgw_prog.specs.Held.{Says};
 ghost use Rattle.pgw_prog.specs.Passfile.{password_line, AnswersFile, AnswersPassfile};

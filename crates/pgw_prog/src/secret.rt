@@ -1,5 +1,5 @@
 //! The stored secret of a password.
-ghost use Rattle.std.specs.Prelude.{◌≡◌, ◌≤◌, ◌++◌, IfOk};
+ghost use Rattle.std.specs.Prelude.{◌≤◌, ◌++◌, IfOk};
 ghost use Rattle.pgw_prog.specs.Held.{Says};
 ghost use Rattle.pgw_prog_printing.specs.Pieces.{line_end};
 ghost use Rattle.pgw_prog.specs.Secret.{SaysSecret};

@@ -1,5 +1,4 @@
 //! A sink that nobody reads.
-ghost use Rattle.std.specs.Prelude.{◌≡◌};
 
 use pgw_link::log::{Log, Note};
 use pgw_link::stream::{Sink, SinkFault};

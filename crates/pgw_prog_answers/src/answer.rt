@@ -1,6 +1,5 @@
 //! The printing of an answer.
 ghost use Rattle.std.specs.Prelude.{◌≡◌, None, IfOk};
-ghost use Rattle.pgw_prog_output.specs.Columns.{Value};
 ghost use Rattle.pgw_prog_answers.specs.declared.said.Said.TheVariants as said;
 ghost use Rattle.pgw_prog_answers.specs.Answers.{HearsSaid, Shuts, columns_open as opened_in};
 

@@ -140,7 +140,7 @@ fn step<M: Messages, O: Sink, E: Sink>(
     ensures counts { CountsHalt (O.faults output.old) (O.faults output.new) result }
     ensures falls { Falls (M.line source.old) (M.line source.new) result }
 {
-    match source.next_whole(alloc) {
+    match source.next_whole() {
         Ok(Some(message)) => hear_message(alloc, page, &message, query, output, errors),
         Ok(None) => wait_for_more(alloc, source, page, output, errors),
         Err(error) => lose(alloc, error, errors),
@@ -257,7 +257,7 @@ pub fn ask<M: Messages, O: Sink, E: Sink>(
         (O.tape output.old).wrote (O.tape output.new).wrote result }
     ensures counts { CountsEnd (O.faults output.old) (O.faults output.new) result }
 {
-    match source.ask(alloc, query) {
+    match source.ask(query) {
         Ok(()) => answer(alloc, source, format, query, output, errors),
         Err(error) => end_of(lose(alloc, error, errors), false),
     }

@@ -3,7 +3,6 @@ ghost use Rattle.pgw_prog_answers.specs.Lines.{LineFills, ServerLine, SendsQuery
 
 use pgw_backend::backend::PgWireBackendMessage;
 use pgw_backend::client_error::PgWireClientResult;
-use std::alloc::Global;
 
 /// A client that asks queries, and hands out what its server says.
 pub trait Messages {
@@ -11,11 +10,11 @@ pub trait Messages {
     ghost line: { Self → ServerLine };
 
     /// Asks a query, as a simple one.
-    fn ask(&mut self, alloc: Global, query: &str) -> PgWireClientResult<()>
+    fn ask(&mut self, query: &str) -> PgWireClientResult<()>
         ensures { SendsQuery query.now (line self.old) (line self.new) result };
 
     /// Hands out the next message, or none where none is whole yet.
-    fn next_whole(&mut self, alloc: Global) -> PgWireClientResult<Option<PgWireBackendMessage>>
+    fn next_whole(&mut self) -> PgWireClientResult<Option<PgWireBackendMessage>>
         ensures { LineTakes (line self.old) (line self.new) result };
 
     /// Waits for more bytes. False where there are no more.

@@ -1,10 +1,9 @@
 //! What is written of an answer, as it comes.
-ghost use Rattle.std.specs.Prelude.{◌≡◌, ◌⊎◌, ◌≤◌, ◌∷◌, [], ◌++◌, ◌||◌, false, None, IfOk, IfErr, OnOk, OnErr};
+ghost use Rattle.std.specs.Prelude.{◌≡◌, ◌⊎◌, ◌∷◌, [], ◌||◌, false, None, IfOk, IfErr, OnOk, OnErr};
 ghost use Rattle.pgw_link.specs.Tape.{HasTapeCause};
-ghost use Rattle.pgw_prog_answers.specs.Answers.{HearsSaid, open_text, columns_open};
+ghost use Rattle.pgw_prog_answers.specs.Answers.{HearsSaid, columns_open};
 ghost use Rattle.pgw_prog_answers.specs.Pages.{HasStopped, IsFront, PrintsHeard, sheet, whole_text};
 ghost use Rattle.pgw_prog_answers.specs.Said.{is_failed, said_rows_in, said_turn};
-ghost use Rattle.pgw_prog_answers.specs.Written.{WroteFront};
 
 use crate::answer::Answer;
 use crate::said::{Said, Turn, said_of};

@@ -1,5 +1,5 @@
 //! What a server's message is in the answer of a query.
-ghost use Rattle.std.specs.Prelude.{◌≡◌, IfOk, length};
+ghost use Rattle.std.specs.Prelude.{◌≡◌, IfOk};
 ghost use Rattle.std.specs.List.{list_all};
 ghost use Rattle.pgw_prog_answers.specs.Said.{columns_of, columns_said as columns_mean, is_failed as fails, is_text_field, placed as place_of, said_row, row_said as row_means, said_by, said_turn, values_of};
 

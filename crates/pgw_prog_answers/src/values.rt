@@ -1,5 +1,4 @@
 //! The values of a row.
-ghost use Rattle.std.specs.Prelude.{◌≡◌};
 ghost use Rattle.pgw_wire.specs.Reading.{Gives};
 ghost use Rattle.pgw_prog_answers.specs.Said.{values_of};
 

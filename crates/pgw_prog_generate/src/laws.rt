@@ -1,6 +1,5 @@
 //! What holds of the stream.
 ghost use Rattle.std.specs.Prelude.{◌≡◌, ◌<◌, ◌^◌, ℕ, List, length};
-ghost use Rattle.pgw_session.specs.Events.{Event};
 ghost use Rattle.pgw_session.specs.Transcript.{Completes, report_of};
 ghost use Rattle.pgw_prog_generate.specs.Stream.{IsStream, gen_segments, gen_rows};
 ghost use Rattle.pgw_prog_generate.specs.Summary.{gen_input, report_rows};

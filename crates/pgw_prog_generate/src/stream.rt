@@ -17,13 +17,13 @@ use pgw_types::memory::OutOfMemory;
 use pgw_types::text::Text;
 use std::alloc::Global;
 
-/// The numbers are below this.
+// The numbers are below this.
 const MODULUS: u32 = 2147483648;
 
-/// The most bytes of a row, whose number has ten digits at most.
+// The most bytes of a row, whose number has ten digits at most.
 const ROW: usize = 21;
 
-/// The most bytes of what stands before the rows and behind them.
+// The most bytes of what stands before the rows and behind them.
 const AROUND: usize = 128;
 
 // The number behind one.

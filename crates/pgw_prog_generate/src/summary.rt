@@ -30,7 +30,7 @@ impl fmt::Display for TooManyRows {
 
 impl Error for TooManyRows {}
 
-/// The rows that were added so far.
+// The rows that were added so far.
 #[derive(Drop)]
 struct Sum {
     rows: u64,

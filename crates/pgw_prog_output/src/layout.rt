@@ -1,6 +1,6 @@
 //! How a table's columns are laid out.
-ghost use Rattle.std.specs.Prelude.{◌≡◌, ◌==◌, ◌+◌, length, map, IfOk, OnOk};
-ghost use Rattle.pgw_prog_output.specs.Layout.{columns_for, laid_out, column_name, names_of, column_side, widened_by};
+ghost use Rattle.std.specs.Prelude.{◌≡◌, ◌==◌, ◌+◌, IfOk, OnOk};
+ghost use Rattle.pgw_prog_output.specs.Layout.{columns_for, laid_out, names_of, column_side, widened_by};
 
 use crate::columns::{Column, ColumnKind};
 use crate::table_lines::{Side, TableColumn, widen};

@@ -1,5 +1,5 @@
 //! Lines of a table whose columns are aligned by the width of their characters.
-ghost use Rattle.std.specs.Prelude.{◌≡◌, ◌++◌, OnOk, IfOk, string_bytes};
+ghost use Rattle.std.specs.Prelude.{◌≡◌, ◌++◌, OnOk, IfOk};
 ghost use Rattle.std.specs.List.{flat_map};
 ghost use Rattle.pgw_prog_output.specs.TableLines.{cell_text, padded, rule_line, rule_rest, table_line, table_rest, wider, widened};
 

@@ -1,5 +1,5 @@
 //! The calls of a pool script, one by one.
-ghost use Rattle.std.specs.Prelude.{◌≡◌, ◌≢◌, ◌<◌, ◌++◌, ◌∷◌, [], length, slice_index_or, map, IfOk, OnOk, MatchOption, true, false};
+ghost use Rattle.std.specs.Prelude.{◌≡◌, ◌<◌, ◌++◌, [], length, slice_index_or, map, IfOk, OnOk, MatchOption, true, false};
 ghost use Rattle.pgw_prog_script.specs.declared.pool_line.PoolCall.TheVariants as call;
 ghost use Rattle.pgw_prog_printing.specs.AnswerLines.{answer_lines};
 ghost use Rattle.pgw_prog_printing.specs.SessionText.{error_line};
@@ -13,7 +13,6 @@ use pgw_prog_printing::answer_lines::put_answer;
 use pgw_prog_printing::pieces::{put, put_decimal};
 use pgw_prog_printing::session_text::put_error;
 use pgw_prog_script::pool_script::PoolCall;
-use std::alloc::Global;
 
 /// A lease that is out, and how many requests were answered in it.
 pub struct Seat {
@@ -154,16 +153,11 @@ fn place_of(out: &[Seat], number: u64) -> Option<usize>
     None
 }
 
-fn run(
-    alloc: Global,
-    seat: &mut Seat,
-    request: &Request,
-    text: &mut Vec<u8>,
-) -> Result<(), OutOfMemory>
+fn run(seat: &mut Seat, request: &Request, text: &mut Vec<u8>) -> Result<(), OutOfMemory>
     ensures { OnOk result (PrintsRun request.now (place_for seat.old) (place_for seat.new)
         text.old.items text.new.items) }
 {
-    match seat.lease.run(alloc, request) {
+    match seat.lease.run(request) {
         Ok(answer) => {
             seat.answers = seat.answers.saturating_add(1);
             tell_answer(text, seat.answers, answer)
@@ -173,7 +167,6 @@ fn run(
 }
 
 fn run_in(
-    alloc: Global,
     pool: &Pool<MemoryLink>,
     out: &mut Vec<Seat>,
     number: u64,
@@ -188,7 +181,7 @@ fn run_in(
 {
     match place_of(out.as_slice(), number) {
         Some(at) => {
-            run(alloc, &mut out[at], request, text)?;
+            run(&mut out[at], request, text)?;
             Ok(true)
         }
         None => Ok(false),
@@ -196,7 +189,6 @@ fn run_in(
 }
 
 fn give_back(
-    alloc: Global,
     pool: &mut Pool<MemoryLink>,
     out: &mut Vec<Seat>,
     number: u64,
@@ -214,7 +206,7 @@ fn give_back(
                 lease,
                 answers: _answers,
             } = out.remove(at);
-            let returned = pool.give_back(alloc, lease);
+            let returned = pool.give_back(lease);
             let told = tell_returned(text, &returned);
             drop(returned);
             told?;
@@ -226,7 +218,6 @@ fn give_back(
 
 /// Makes a call, and prints what comes of it; answers whether the lease that it names is out.
 pub fn make_call(
-    alloc: Global,
     pool: &mut Pool<MemoryLink>,
     out: &mut Vec<Seat>,
     call: &PoolCall,
@@ -242,23 +233,23 @@ pub fn make_call(
             lend(pool, out, text)?;
             Ok(true)
         }
-        PoolCall::Run(number, request) => run_in(alloc, pool, out, *number, request, text),
-        PoolCall::Back(number) => give_back(alloc, pool, out, *number, text),
+        PoolCall::Run(number, request) => run_in(pool, out, *number, request, text),
+        PoolCall::Back(number) => give_back(pool, out, *number, text),
     }
 }
 
 /// Gives all leases back, in the order that they were lent. It answers whether memory was wanting.
-pub fn give_all_back(alloc: Global, pool: &mut Pool<MemoryLink>, mut out: Vec<Seat>) -> bool
+pub fn give_all_back(pool: &mut Pool<MemoryLink>, mut out: Vec<Seat>) -> bool
     requires { HasRoom pool.old out.items }
     ensures { AllBack (pool_standing pool.old out.items) (pool_standing pool.new []) }
 {
     let mut wanting = false;
-    while out.len() > 0 {
+    'leases: while out.len() > 0 {
         let Seat {
             lease,
             answers: _answers,
         } = out.remove(0);
-        let returned = pool.give_back(alloc, lease);
+        let returned = pool.give_back(lease);
         if was_wanting(&returned) {
             wanting = true;
         }

@@ -24,7 +24,6 @@ pub enum PoolOutcome {
 
 // Makes calls, up to one that names a lease which is not out. It answers that one's place.
 fn make_calls(
-    alloc: Global,
     pool: &mut Pool<MemoryLink>,
     out: &mut Vec<Seat>,
     calls: &[PoolCall],
@@ -36,7 +35,7 @@ fn make_calls(
         (pool_standing pool.new out.new.items) text.old.items text.new.items) }
 {
     for at in 0..calls.len() {
-        if !make_call(alloc, pool, out, &calls[at], text)? {
+        if !make_call(pool, out, &calls[at], text)? {
             return Ok(Some(at));
         }
     }
@@ -71,8 +70,8 @@ fn run_calls(
 {
     let mut out = Vec::new(alloc);
     let mut text = Vec::new(alloc);
-    let made = make_calls(alloc, &mut pool, &mut out, calls, &mut text);
-    let wanting = give_all_back(alloc, &mut pool, out);
+    let made = make_calls(&mut pool, &mut out, calls, &mut text);
+    let wanting = give_all_back(&mut pool, out);
     drop(pool);
     match made {
         Ok(stop) if !wanting => Ok(outcome_of(text, lines, stop)),

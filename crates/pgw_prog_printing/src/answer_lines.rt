@@ -1,5 +1,5 @@
 //! The printed lines of answers.
-ghost use Rattle.std.specs.Prelude.{◌≡◌, ◌++◌, ◌∷◌, [], OnOk, codes, decimal, ◌+◌, ◌<◌, ◌^◌};
+ghost use Rattle.std.specs.Prelude.{◌≡◌, ◌++◌, [], OnOk, codes, decimal, ◌+◌, ◌<◌};
 ghost use Rattle.std.specs.List.{flat_map};
 ghost use Rattle.pgw_query.specs.Runs.{lent_row};
 ghost use Rattle.pgw_prog_printing.specs.Pieces.{line_end, quoted, quoted_byte};

@@ -1,5 +1,5 @@
 //! The names of errors.
-ghost use Rattle.std.specs.Prelude.{◌≡◌, ◌++◌, OnOk, string_bytes, codes};
+ghost use Rattle.std.specs.Prelude.{◌≡◌, ◌++◌, OnOk};
 ghost use Rattle.pgw_prog_printing.specs.ErrorNames.{wire_name, client_name};
 
 use crate::pieces::put;

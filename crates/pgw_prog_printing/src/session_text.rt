@@ -1,10 +1,9 @@
 //! The printed text of a session.
-ghost use Rattle.std.specs.Prelude.{◌≡◌, ◌++◌, ◌∷◌, [], OnOk, codes, decimal, string_bytes, ◌+◌, ◌<◌, ◌^◌, Ok, Err};
+ghost use Rattle.std.specs.Prelude.{◌≡◌, ◌++◌, OnOk, ◌+◌, ◌<◌, Ok, Err};
 ghost use Rattle.std.specs.List.{flat_map};
 ghost use Rattle.std.specs.FinMap as map;
-ghost use Rattle.pgw_prog_printing.specs.Pieces.{quoted};
 ghost use Rattle.pgw_prog_printing.specs.SessionText.{sent_line, version_line, process_line, key_line, parameter_line, status_line, report_lines, error_line, result_text, session_text};
-ghost use Rattle.pgw_prog_printing.specs.AnswerLines.{printed_tag, type_number, format_number, field_line, row_line, response_lines, item_line, answer_lines, numbered};
+ghost use Rattle.pgw_prog_printing.specs.AnswerLines.{answer_lines};
 
 use crate::answer_lines::put_answers;
 use crate::error_names::put_client_name;

@@ -1,5 +1,4 @@
 //! A client, as what queries are asked of.
-ghost use Rattle.std.specs.Prelude.{◌≡◌};
 
 use pgw_backend::backend::PgWireBackendMessage;
 use pgw_backend::client_error::{PgWireClientError, PgWireClientResult};
@@ -9,7 +8,6 @@ use pgw_link::link::Link;
 use pgw_prog_answers::messages::Messages;
 use pgw_query::simplequery::Query;
 use pgw_types::text::Text;
-use std::alloc::Global;
 
 /// A client, as what queries are asked of.
 #[derive(Drop)]
@@ -24,8 +22,8 @@ impl<L: Link> Messages for Talking<L> {
     ghost line = { λ talking. line_of_client L.tape L.faults talking.client };
 
     #[tactic(auto, using(crate::proofs::TalkingLaws::sends, crate::proofs::TalkingLaws::unspelled))]
-    fn ask(&mut self, alloc: Global, query: &str) -> PgWireClientResult<()> {
-        match Text::from_str(alloc, query) {
+    fn ask(&mut self, query: &str) -> PgWireClientResult<()> {
+        match Text::from_str(self.client.alloc(), query) {
             Ok(query) => self
                 .client
                 .send(PgWireFrontendMessage::Query(Query::new(query))),
@@ -34,8 +32,8 @@ impl<L: Link> Messages for Talking<L> {
     }
 
     #[tactic(auto, using(crate::proofs::TalkingLaws::none_taken, crate::proofs::TalkingLaws::one_taken, crate::proofs::TalkingLaws::untaken))]
-    fn next_whole(&mut self, alloc: Global) -> PgWireClientResult<Option<PgWireBackendMessage>> {
-        match self.client.poll_next(alloc) {
+    fn next_whole(&mut self) -> PgWireClientResult<Option<PgWireBackendMessage>> {
+        match self.client.poll_next() {
             Ok(ReadyState::Ready(message)) => Ok(Some(message)),
             Ok(ReadyState::Pending) => Ok(None),
             Err(error) => Err(error),

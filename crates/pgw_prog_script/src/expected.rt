@@ -6,7 +6,7 @@ use crate::relay_script::{RelayPlace, relay_may_follow};
 use crate::script::{Place, may_follow};
 use std::str;
 
-/// The script's line with this number, and the line before it.
+// The script's line with this number, and the line before it.
 fn lines_at(text: &[u8], number: u64) -> (&[u8], &[u8]) {
     let mut before: &[u8] = b"";
     let mut line: &[u8] = b"";
@@ -18,13 +18,13 @@ fn lines_at(text: &[u8], number: u64) -> (&[u8], &[u8]) {
     (before, line)
 }
 
-/// A line's first word, where it is a text.
+// A line's first word, where it is a text.
 fn first_word(line: &[u8]) -> &str {
     let word = line.split(|byte| *byte == b' ').next().unwrap_or(b"");
     str::from_utf8(word).unwrap_or("")
 }
 
-/// The kind of the lines that begin with this word.
+// The kind of the lines that begin with this word.
 fn place_named(word: &str) -> Option<Place> {
     match word {
         "config" => Some(Place::Config),
@@ -42,7 +42,7 @@ fn place_named(word: &str) -> Option<Place> {
     }
 }
 
-/// The lines that may stand behind one of this kind.
+// The lines that may stand behind one of this kind.
 fn behind(place: Place) -> &'static str {
     match place {
         Place::Start => "\"config TEXT\" first",
@@ -62,7 +62,7 @@ fn behind(place: Place) -> &'static str {
     }
 }
 
-/// The form of a request that begins with this word.
+// The form of a request that begins with this word.
 fn request_form(word: &str) -> &'static str {
     match word {
         "simple" => "\"simple SQL\", a text in UTF-8",
@@ -75,7 +75,7 @@ fn request_form(word: &str) -> &'static str {
     }
 }
 
-/// The form of a line that begins with this word.
+// The form of a line that begins with this word.
 fn form(word: &str) -> &'static str {
     match word {
         "config" => "\"config TEXT\", a text in UTF-8",
@@ -90,7 +90,7 @@ fn form(word: &str) -> &'static str {
     }
 }
 
-/// What stands out in a line that is outside the grammar.
+// What stands out in a line that is outside the grammar.
 fn found(line: &[u8]) -> &'static str {
     match line {
         [] => ", found nothing",
@@ -112,7 +112,7 @@ pub fn expected_at(text: &[u8], number: u64) -> (&'static str, &'static str) {
     (expected, found(line))
 }
 
-/// The kind of the lines of a pair script that begin with this word.
+// The kind of the lines of a pair script that begin with this word.
 fn pair_place_named(word: &str) -> Option<PairPlace> {
     match word {
         "user" => Some(PairPlace::User),
@@ -130,7 +130,7 @@ fn pair_place_named(word: &str) -> Option<PairPlace> {
     }
 }
 
-/// The lines of a pair script that may stand behind one of this kind.
+// The lines of a pair script that may stand behind one of this kind.
 fn behind_in_pair(place: PairPlace) -> &'static str {
     match place {
         PairPlace::Start => "\"user TEXT\" first",
@@ -152,7 +152,7 @@ fn behind_in_pair(place: PairPlace) -> &'static str {
     }
 }
 
-/// The form of a line of a pair script that begins with this word.
+// The form of a line of a pair script that begins with this word.
 fn pair_form(word: &str) -> &'static str {
     match word {
         "user" => "\"user TEXT\", a text in UTF-8",
@@ -181,7 +181,7 @@ pub fn expected_in_pair_at(text: &[u8], number: u64) -> (&'static str, &'static 
     (expected, found(line))
 }
 
-/// The kind of the lines of a relay script that begin with this word.
+// The kind of the lines of a relay script that begin with this word.
 fn relay_place_named(word: &str) -> Option<RelayPlace> {
     match word {
         "cut" => Some(RelayPlace::Cut),
@@ -192,7 +192,7 @@ fn relay_place_named(word: &str) -> Option<RelayPlace> {
     }
 }
 
-/// The lines of a relay script that may stand behind one of this kind.
+// The lines of a relay script that may stand behind one of this kind.
 fn behind_in_relay(place: RelayPlace) -> &'static str {
     match place {
         RelayPlace::Start => "\"cut N\" first",
@@ -203,7 +203,7 @@ fn behind_in_relay(place: RelayPlace) -> &'static str {
     }
 }
 
-/// The form of a line of a relay script that begins with this word.
+// The form of a line of a relay script that begins with this word.
 fn relay_form(word: &str) -> &'static str {
     match word {
         "cut" => "\"cut N\", a number from 1 to 65536",
@@ -225,7 +225,7 @@ pub fn expected_in_relay_at(text: &[u8], number: u64) -> (&'static str, &'static
     (expected, found(line))
 }
 
-/// The kind of the lines of a pool script that begin with this word.
+// The kind of the lines of a pool script that begin with this word.
 fn pool_place_named(word: &str) -> Option<PoolPlace> {
     match word {
         "config" => Some(PoolPlace::Config),
@@ -238,7 +238,7 @@ fn pool_place_named(word: &str) -> Option<PoolPlace> {
     }
 }
 
-/// The lines of a pool script that may stand behind one of this kind.
+// The lines of a pool script that may stand behind one of this kind.
 fn behind_in_pool(place: PoolPlace) -> &'static str {
     match place {
         PoolPlace::Start => "\"config TEXT\" first",
@@ -253,7 +253,7 @@ fn behind_in_pool(place: PoolPlace) -> &'static str {
     }
 }
 
-/// The form of a line of a pool script that begins with this word.
+// The form of a line of a pool script that begins with this word.
 fn pool_form(word: &str) -> &'static str {
     match word {
         "config" => "\"config TEXT\", a text in UTF-8",

@@ -84,7 +84,7 @@ pub fn read_bytes(alloc: Global, value: &[u8]) -> Result<Option<Octets>, OutOfMe
     }
 }
 
-/// What a line says, where it is one of the later kinds.
+// What a line says, where it is one of the later kinds.
 #[tactic(auto, unfolding(crate::specs::Line::later_line_of))]
 fn read_later_line(alloc: Global, line: &[u8]) -> Result<Option<Line>, OutOfMemory>
     ensures value { IfOk result (λ o. o ≡ later_line_of line.now) }
@@ -102,7 +102,7 @@ fn read_later_line(alloc: Global, line: &[u8]) -> Result<Option<Line>, OutOfMemo
     Ok(read_request(alloc, line)?.map(Line::Request))
 }
 
-/// What a line says, where it is a bound or one of the later kinds.
+// What a line says, where it is a bound or one of the later kinds.
 #[tactic(auto, unfolding(crate::specs::Line::bound_of))]
 fn read_bound(alloc: Global, line: &[u8]) -> Result<Option<Line>, OutOfMemory>
     ensures value { IfOk result (λ o. o ≡ bound_of line.now) }
@@ -117,7 +117,7 @@ fn read_bound(alloc: Global, line: &[u8]) -> Result<Option<Line>, OutOfMemory>
     read_later_line(alloc, line)
 }
 
-/// What a line says, where it is a setting or one of the later kinds.
+// What a line says, where it is a setting or one of the later kinds.
 #[tactic(auto, unfolding(crate::specs::Line::setting_of))]
 fn read_setting(alloc: Global, line: &[u8]) -> Result<Option<Line>, OutOfMemory>
     ensures value { IfOk result (λ o. o ≡ setting_of line.now) }

@@ -69,7 +69,7 @@ pub trait Draft: Drop {
         ensures { result ≡ script self };
 }
 
-/// The place of the first line feed.
+// The place of the first line feed.
 fn line_end(text: &[u8]) -> Option<usize>
     ensures place { result ≡ position (λ b. b == 10) text.now }
     ensures bound { IfSome result (λ end. end < length text.now) }
@@ -77,7 +77,7 @@ fn line_end(text: &[u8]) -> Option<usize>
     memchr(b'\n', text)
 }
 
-/// The first line of a text, and what stands behind it.
+// The first line of a text, and what stands behind it.
 fn first_line(text: &[u8]) -> (&[u8], &[u8])
     requires { 0 < length text.now }
     ensures lines { lines_of text.now ≡ result.0.now ∷ lines_of result.1.now }

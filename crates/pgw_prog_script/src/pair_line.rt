@@ -41,7 +41,7 @@ fn read_words(value: &[u8]) -> Option<[u8; 32]>
     <[u8; 32] as FromHex>::from_hex(value).ok()
 }
 
-/// A number of 32 bits, where it is one from this on.
+// A number of 32 bits, where it is one from this on.
 #[tactic(auto, unfolding(crate::specs::PairLine::u32_in))]
 fn read_u32(least: u64, value: &[u8]) -> Option<u32>
     ensures value { result ≡ u32_in least value.now }
@@ -59,7 +59,7 @@ fn is_from(least: u64, number: u64) -> bool
     least <= number && number <= 4294967295
 }
 
-/// The event that a line says, if it does.
+// The event that a line says, if it does.
 #[tactic(auto, unfolding(crate::specs::PairLine::event_in))]
 fn read_event(line: &[u8]) -> Option<Event>
     ensures { result ≡ event_in line.now }
@@ -73,7 +73,7 @@ fn read_event(line: &[u8]) -> Option<Event>
     None
 }
 
-/// What a line says, where it is one of those that may be left out.
+// What a line says, where it is one of those that may be left out.
 #[tactic(auto, unfolding(crate::specs::PairLine::behind_words))]
 fn read_behind_words(alloc: Global, line: &[u8]) -> Result<Option<PairLine>, OutOfMemory>
     ensures value { IfOk result (λ o. o ≡ behind_words line.now) }
@@ -88,7 +88,7 @@ fn read_behind_words(alloc: Global, line: &[u8]) -> Result<Option<PairLine>, Out
     Ok(read_event(line).map(PairLine::Event))
 }
 
-/// What a line says, where it is one of those behind the texts.
+// What a line says, where it is one of those behind the texts.
 #[tactic(auto, unfolding(crate::specs::PairLine::behind_texts))]
 fn read_behind_texts(alloc: Global, line: &[u8]) -> Result<Option<PairLine>, OutOfMemory>
     ensures value { IfOk result (λ o. o ≡ behind_texts line.now) }

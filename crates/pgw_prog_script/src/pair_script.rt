@@ -148,7 +148,7 @@ pub struct PairDraft {
 }
 
 impl PairDraft {
-    /// Takes a line, where it may stand here.
+    // Takes a line, where it may stand here.
     fn take(&mut self, line: PairLine) -> Result<bool, OutOfMemory>
         ensures step { IfOk result (λ went. step pair_form self.old.place self.old.script
             (Some line) ≡ (if went then Some (self.new.place, self.new.script) else None)) }

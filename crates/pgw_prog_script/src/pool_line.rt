@@ -33,7 +33,7 @@ pub enum PoolLine {
     Call(PoolCall),
 }
 
-/// A simple query in a lease.
+// A simple query in a lease.
 #[tactic(auto, unfolding(crate::specs::PoolLine::run_in))]
 fn read_run(alloc: Global, text: &[u8]) -> Result<Option<PoolCall>, OutOfMemory>
     ensures { IfOk result (λ o. o ≡ run_in text.now) }
@@ -47,7 +47,7 @@ fn read_run(alloc: Global, text: &[u8]) -> Result<Option<PoolCall>, OutOfMemory>
     }
 }
 
-/// The call that a line makes, if it does.
+// The call that a line makes, if it does.
 #[tactic(auto, unfolding(crate::specs::PoolLine::call_in))]
 fn read_call(alloc: Global, line: &[u8]) -> Result<Option<PoolCall>, OutOfMemory>
     ensures { IfOk result (λ o. o ≡ call_in line.now) }
@@ -64,7 +64,7 @@ fn read_call(alloc: Global, line: &[u8]) -> Result<Option<PoolCall>, OutOfMemory
     Ok(None)
 }
 
-/// What a line says, where it is a server's or a call.
+// What a line says, where it is a server's or a call.
 #[tactic(auto, unfolding(crate::specs::PoolLine::behind_settings))]
 fn read_behind_settings(alloc: Global, line: &[u8]) -> Result<Option<PoolLine>, OutOfMemory>
     ensures value { IfOk result (λ o. o ≡ behind_settings line.now) }

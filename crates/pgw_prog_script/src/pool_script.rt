@@ -111,7 +111,7 @@ pub struct PoolDraft {
 }
 
 impl PoolDraft {
-    /// Takes a line, where it may stand here.
+    // Takes a line, where it may stand here.
     fn take(&mut self, line: PoolLine) -> Result<bool, OutOfMemory>
         ensures step { IfOk result (λ went. step pool_form self.old.place self.old.script
             (Some line) ≡ (if went then Some (self.new.place, self.new.script) else None)) }

@@ -24,7 +24,7 @@ pub enum RelayLine {
     Turns(Listed<Side>),
 }
 
-/// The side that a letter stands for.
+// The side that a letter stands for.
 fn read_side(letter: u8) -> Option<Side>
     ensures { result ≡ side_in (letter ∷ []) }
 {
@@ -35,7 +35,7 @@ fn read_side(letter: u8) -> Option<Side>
     }
 }
 
-/// The sides that letters stand for, if each is one.
+// The sides that letters stand for, if each is one.
 fn read_turns(alloc: Global, letters: &[u8]) -> Result<Option<Listed<Side>>, OutOfMemory>
     ensures { IfOk result (λ o. o ≡ turns_in letters.now) }
 {
@@ -46,7 +46,7 @@ fn read_turns(alloc: Global, letters: &[u8]) -> Result<Option<Listed<Side>>, Out
     Ok(turns)
 }
 
-/// What a line says, where it gives no bytes.
+// What a line says, where it gives no bytes.
 #[tactic(auto, unfolding(crate::specs::RelayLine::setting_of))]
 fn read_setting(alloc: Global, line: &[u8]) -> Result<Option<RelayLine>, OutOfMemory>
     ensures value { IfOk result (λ o. o ≡ setting_of line.now) }

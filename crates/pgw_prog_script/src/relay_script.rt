@@ -102,7 +102,7 @@ pub struct RelayDraft {
 }
 
 impl RelayDraft {
-    /// Takes a line, where it may stand here.
+    // Takes a line, where it may stand here.
     fn take(&mut self, line: RelayLine) -> Result<bool, OutOfMemory>
         ensures step { IfOk result (λ went. step relay_form self.old.place self.old.script
             (Some line) ≡ (if went then Some (self.new.place, self.new.script) else None)) }

@@ -3,7 +3,6 @@ ghost use Rattle.std.specs.Prelude.{◌≡◌, map, IfOk};
 ghost use Rattle.std.specs.Option.{option_copied};
 ghost use Rattle.pgw_types.specs.Numbers.{number_in};
 ghost use Rattle.pgw_config.specs.Pieces.{pushed, all_read};
-ghost use Rattle.pgw_types.specs.Marks.{before_mark, behind_mark, pieces_at as pieces_between};
 ghost use Rattle.pgw_prog_script.specs.RequestLine.{text_in, hex_in, word_in, name_in, signed_in_line, oid_in, format_in, row_limit_in, parameter_in, oids_in, parameters_in, formats_in, prepare_in, bind_in, execute_in, target_in, query_in, extended_in, request_in};
 
 use hex::FromHexError;
@@ -48,7 +47,7 @@ fn read_name(alloc: Global, value: &[u8]) -> Result<Option<Option<Text>>, OutOfM
     Ok(read_word(alloc, value)?.map(Some))
 }
 
-/// Bytes as the text that they are.
+// Bytes as the text that they are.
 fn as_text(value: &[u8]) -> Option<&str>
     ensures { option_copied result ≡ text_in value.now }
 {

@@ -1,7 +1,7 @@
 //! Session scripts.
 ghost use Rattle.std.specs.Prelude.{◌≡◌, ◌<◌, Some, None, OnOk, IfOk, if◌then◌else◌};
 ghost use Rattle.pgw_prog_script.specs.Form.{step, read_script, ReadsScript};
-ghost use Rattle.pgw_prog_script.specs.Line.{CutMovesByte, bytes_in, known, line_of_cut};
+ghost use Rattle.pgw_prog_script.specs.Line.{CutMovesByte, bytes_in, known};
 ghost use Rattle.pgw_prog_script.specs.Script.{session_form, first_script, with_line, line_place as place_for, may_follow as follows, may_end as ends};
 
 use crate::line::{Line, read_line};
@@ -137,7 +137,7 @@ pub struct ScriptDraft {
 }
 
 impl ScriptDraft {
-    /// Takes a line, where it may stand here.
+    // Takes a line, where it may stand here.
     fn take(&mut self, line: Line) -> Result<bool, OutOfMemory>
         ensures step { IfOk result (λ went. step session_form self.old.place self.old.script
             (Some line) ≡ (if went then Some (self.new.place, self.new.script) else None)) }

@@ -1,5 +1,5 @@
 //! What a command's help says.
-ghost use Rattle.std.specs.Prelude.{◌≡◌, ◌↔◌, IsSome, IsTrue};
+ghost use Rattle.std.specs.Prelude.{◌↔◌, IsSome, IsTrue};
 ghost use Rattle.pgw_prog_words.specs.Help.{is_command};
 
 const QUERY: &str = "hothummei query [OPTION..] TEXT SQL..

@@ -1,5 +1,5 @@
 //! A proxy between two links.
-ghost use Rattle.std.specs.Prelude.{◌≡◌, ◌<◌, ◌≤◌, [], length, OnOk};
+ghost use Rattle.std.specs.Prelude.{◌≡◌, ◌<◌, [], OnOk};
 ghost use Rattle.std.specs.Io.KnownBytes.{Keeps};
 ghost use Rattle.pgw_link.specs.Foresight.{TapeEnds, Foreseen};
 ghost use Rattle.pgw_link.specs.Tape.{HasTapeCause};
@@ -18,7 +18,7 @@ use pgw_types::memory::OutOfMemory;
 use pgw_types::octets::Octets;
 use std::alloc::Global;
 
-/// The most bytes that one turn reads.
+// The most bytes that one turn reads.
 const CHUNK: usize = 8192;
 
 /// What a run of a proxy came to.
