@@ -9,7 +9,7 @@ use Rattle.pgw_handlers.specs.declared.client_info.ReadyState.{ReadyState}
 use Rattle.pgw_handlers.specs.declared.client_info.ReadyState.TheVariants.{Pending, Ready}
 use Rattle.pgw_handlers.specs.Sending.{Sent, NotSent}
 use Rattle.pgw_startup.specs.declared.parameter_status.ParameterStatus.{ParameterStatus}
-use Rattle.pgw_query.specs.declared.response.NoticeResponse.{NoticeResponse}
+use Rattle.pgw_query.specs.Rows.{NoticeResponse}
 use Rattle.pgw_query.specs.declared.notification.NotificationResponse.{NotificationResponse}
 use Rattle.pgw_handlers.specs.Handling.{HandlerView, standing, CallAnswer, HandlerStays as NothingDone, KeepsParameter, HandlerMisplaces}
 use Rattle.pgw_handlers.specs.Simple.{SimpleCall, simple_query, on_row_description, on_data_row, on_command_complete, on_empty_query, on_parameter_status, on_notice, on_notification, on_ready_for_query}

@@ -6,7 +6,7 @@ use Rattle.pgw_query.specs.declared.data.DataRow.{DataRow}
 use Rattle.pgw_query.specs.declared.field_info.FieldInfo.{FieldInfo}
 use Rattle.pgw_query.specs.declared.field_info.FieldFormat.{FieldFormat}
 use Rattle.pgw_query.specs.declared.field_info.FieldFormat.TheVariants as format
-use Rattle.pgw_query.specs.declared.response.ErrorResponse.{ErrorResponse}
+use Rattle.pgw_query.specs.Rows.{ErrorResponse}
 use Rattle.pgw_query.specs.declared.response.TransactionStatus.{TransactionStatus}
 use Rattle.pgw_query.specs.declared.response.TransactionStatus.TheVariants as status
 use Rattle.pgw_query.specs.declared.tag.Tag.{Tag}

@@ -10,16 +10,16 @@ use Rattle.pgw_wire.specs.Framing.{wire_front, Decodes, as_one_of}
 use Rattle.pgw_wire.specs.Formats.{IsRow, SpellsTyped, NoBody}
 use Rattle.pgw_wire.proofs.Laws.{bind_ok, chosen}
 use Rattle.pgw_wire.proofs.MessageLaws.{some_is, made_of}
+use Rattle.pgw_wire.specs.Empty.{empty_request_of, empty_response_of}
+use Rattle.pgw_wire.proofs.EmptyLaws.{empty_request, empty_response}
 use Rattle.pgw_startup.specs.Login.{authentication_of, parameter_status_of, backend_key_data_of, negotiate_of, SpellsAuthentication, SpellsParameterStatus, SpellsBackendKeyData, SpellsNegotiate}
 use Rattle.pgw_startup.specs.Response.{ssl_response_of, gss_enc_response_of}
-use Rattle.pgw_query.specs.Rows.{ready_for_query_of, command_complete_of, empty_query_response_of, error_response_of, notice_response_of, notification_response_of, parameter_description_of, row_description_of, data_row_of, no_data_of, SpellsCommandComplete, SpellsReadyForQuery, SpellsErrorResponse, SpellsNoticeResponse, SpellsNotificationResponse, SpellsParameterDescription, SpellsRowDescription, SpellsDataRow}
-use Rattle.pgw_ext.specs.Rows.{parse_complete_of, bind_complete_of, close_complete_of, portal_suspended_of}
-use Rattle.pgw_copy.specs.Rows.{copy_data_of, copy_done_of, copy_fail_of, copy_response_of, SpellsCopyData, SpellsCopyDone, SpellsCopyFail, SpellsCopyResponse}
+use Rattle.pgw_query.specs.Rows.{ready_for_query_of, command_complete_of, notification_response_of, parameter_description_of, row_description_of, data_row_of, SpellsCommandComplete, SpellsReadyForQuery, SpellsNotificationResponse, SpellsParameterDescription, SpellsRowDescription, SpellsDataRow, SpellsInfoResponse, info_response_of}
+use Rattle.pgw_copy.specs.Rows.{copy_data_of, copy_fail_of, copy_response_of, SpellsCopyData, SpellsCopyFail, SpellsCopyResponse}
 use Rattle.pgw_startup.proofs.LoginLaws.{authentication, parameter_status, backend_key_data, negotiate}
 use Rattle.pgw_startup.proofs.ResponseLaws.{ssl_response, gss_enc_response}
-use Rattle.pgw_query.proofs.RowLaws.{command_complete, empty_query_response, ready_for_query, error_response, notice_response, notification_response, parameter_description, row_description, data_row, no_data}
-use Rattle.pgw_ext.proofs.RowLaws.{parse_complete, bind_complete, close_complete, portal_suspended}
-use Rattle.pgw_copy.proofs.RowLaws.{copy_data, copy_done, copy_fail, copy_response}
+use Rattle.pgw_query.proofs.RowLaws.{info_response, command_complete, ready_for_query, notification_response, parameter_description, row_description, data_row}
+use Rattle.pgw_copy.proofs.RowLaws.{copy_data, copy_fail, copy_response}
 use Rattle.pgw_backend.specs.declared.backend.PgWireBackendMessage.{PgWireBackendMessage}
 use Rattle.pgw_backend.specs.declared.backend.PgWireBackendMessage.TheVariants as backend
 use Rattle.pgw_backend.specs.Backend.{backend_by, backend_typed_front, backend_front}
@@ -76,35 +76,38 @@ module _ (ctx : DecodeContext) (m : PgWireBackendMessage) (bytes rest : List ℕ
       (negotiate ctx) (λ x g s. (typed, s)) b first)
       (choice b 67 _ _ (one_found backend.CommandComplete 67 30000 (command_complete_of ctx) SpellsCommandComplete
       (command_complete ctx) (λ x g s. (typed, s)) b first)
-      (choice b 73 _ _ (one_found backend.EmptyQueryResponse 73 30000 (empty_query_response_of ctx) NoBody
-      (empty_query_response ctx) (λ x g s. (typed, s)) b first)
+      (choice b 73 _ _ (one_found backend.EmptyQueryResponse 73 30000 (empty_response_of 73 ctx) NoBody
+      (empty_response 73 ctx) (λ x g s. (typed, s)) b first)
       (choice b 90 _ _ (one_found backend.ReadyForQuery 90 30000 (ready_for_query_of ctx) SpellsReadyForQuery
       (ready_for_query ctx) (λ x g s. (typed, s)) b first)
-      (choice b 69 _ _ (one_found backend.ErrorResponse 69 2147483647 (error_response_of ctx) SpellsErrorResponse
-      (error_response ctx) (λ x g s. (typed, s)) b first)
-      (choice b 78 _ _ (one_found backend.NoticeResponse 78 2147483647 (notice_response_of ctx) SpellsNoticeResponse
-      (notice_response ctx) (λ x g s. (typed, s)) b first)
+      (choice b 69 _ _ (one_found backend.ErrorResponse 69 2147483647 (info_response_of 69 ctx) SpellsInfoResponse
+      (info_response 69 ctx) (λ x g s. (typed, s)) b first)
+      (choice b 78 _ _ (one_found backend.NoticeResponse 78 2147483647 (info_response_of 78 ctx) SpellsInfoResponse
+      (info_response 78 ctx) (λ x g s. (typed, s)) b first)
       (choice b 65 _ _ (one_found backend.NotificationResponse 65 2147483647 (notification_response_of ctx)
       SpellsNotificationResponse (notification_response ctx) (λ x g s. (typed, s)) b first)
       (choice b 84 _ _ (one_found backend.RowDescription 84 2147483647 (row_description_of ctx) SpellsRowDescription
       (row_description ctx) (λ x g s. (typed, s)) b first)
       (choice b 68 _ _ (one_found backend.DataRow 68 2147483647 (data_row_of ctx) SpellsDataRow (data_row ctx)
       (λ x g s. (typed, s)) b first)
-      (choice b 49 _ _ (one_found backend.ParseComplete 49 30000 (parse_complete_of ctx) NoBody (parse_complete ctx)
+      (choice b 49 _ _ (one_found backend.ParseComplete 49 30000 (empty_response_of 49 ctx) NoBody
+      (empty_response 49 ctx)
       (λ x g s. (typed, s)) b first)
-      (choice b 50 _ _ (one_found backend.BindComplete 50 30000 (bind_complete_of ctx) NoBody (bind_complete ctx)
+      (choice b 50 _ _ (one_found backend.BindComplete 50 30000 (empty_response_of 50 ctx) NoBody
+      (empty_response 50 ctx)
       (λ x g s. (typed, s)) b first)
-      (choice b 51 _ _ (one_found backend.CloseComplete 51 30000 (close_complete_of ctx) NoBody (close_complete ctx)
+      (choice b 51 _ _ (one_found backend.CloseComplete 51 30000 (empty_response_of 51 ctx) NoBody
+      (empty_response 51 ctx)
       (λ x g s. (typed, s)) b first)
-      (choice b 115 _ _ (one_found backend.PortalSuspended 115 30000 (portal_suspended_of ctx) NoBody
-      (portal_suspended ctx) (λ x g s. (typed, s)) b first)
-      (choice b 110 _ _ (one_found backend.NoData 110 30000 (no_data_of ctx) NoBody (no_data ctx)
+      (choice b 115 _ _ (one_found backend.PortalSuspended 115 30000 (empty_response_of 115 ctx) NoBody
+      (empty_response 115 ctx) (λ x g s. (typed, s)) b first)
+      (choice b 110 _ _ (one_found backend.NoData 110 30000 (empty_response_of 110 ctx) NoBody (empty_response 110 ctx)
       (λ x g s. (typed, s)) b first)
       (choice b 116 _ _ (one_found backend.ParameterDescription 116 2147483647 (parameter_description_of ctx)
       SpellsParameterDescription (parameter_description ctx) (λ x g s. (typed, s)) b first)
       (choice b 100 _ _ (one_found backend.CopyData 100 1073741822 (copy_data_of ctx) SpellsCopyData (copy_data ctx)
       (λ x g s. (typed, s)) b first)
-      (choice b 99 _ _ (one_found backend.CopyDone 99 10000 (copy_done_of ctx) SpellsCopyDone (copy_done ctx)
+      (choice b 99 _ _ (one_found backend.CopyDone 99 10000 (empty_request_of 99 ctx) NoBody (empty_request 99 ctx)
       (λ x g s. (typed, s)) b first)
       (choice b 102 _ _ (one_found backend.CopyFail 102 10000 (copy_fail_of ctx) SpellsCopyFail (copy_fail ctx)
       (λ x g s. (typed, s)) b first)
@@ -195,22 +198,24 @@ backend_again ctx (backend.NegotiateProtocolVersion m) g rest h =
     one_again ctx backend.NegotiateProtocolVersion 118 30000 (negotiate_of ctx) SpellsNegotiate (negotiate ctx)
     (λ bytes. refl) h.0 m g rest h.1
 backend_again ctx (backend.ParseComplete m) g rest h =
-    one_again ctx backend.ParseComplete 49 30000 (parse_complete_of ctx) NoBody (parse_complete ctx)
+    one_again ctx backend.ParseComplete 49 30000 (empty_response_of 49 ctx) NoBody (empty_response 49 ctx)
     (λ bytes. refl) h.0 m g rest h.1
 backend_again ctx (backend.BindComplete m) g rest h =
-    one_again ctx backend.BindComplete 50 30000 (bind_complete_of ctx) NoBody (bind_complete ctx) (λ bytes. refl)
+    one_again ctx backend.BindComplete 50 30000 (empty_response_of 50 ctx) NoBody (empty_response 50 ctx)
+    (λ bytes. refl)
     h.0 m g rest h.1
 backend_again ctx (backend.CloseComplete m) g rest h =
-    one_again ctx backend.CloseComplete 51 30000 (close_complete_of ctx) NoBody (close_complete ctx)
+    one_again ctx backend.CloseComplete 51 30000 (empty_response_of 51 ctx) NoBody (empty_response 51 ctx)
     (λ bytes. refl) h.0 m g rest h.1
 backend_again ctx (backend.PortalSuspended m) g rest h =
-    one_again ctx backend.PortalSuspended 115 30000 (portal_suspended_of ctx) NoBody (portal_suspended ctx)
+    one_again ctx backend.PortalSuspended 115 30000 (empty_response_of 115 ctx) NoBody (empty_response 115 ctx)
     (λ bytes. refl) h.0 m g rest h.1
 backend_again ctx (backend.EmptyQueryResponse m) g rest h =
-    one_again ctx backend.EmptyQueryResponse 73 30000 (empty_query_response_of ctx) NoBody
-    (empty_query_response ctx) (λ bytes. refl) h.0 m g rest h.1
+    one_again ctx backend.EmptyQueryResponse 73 30000 (empty_response_of 73 ctx) NoBody
+    (empty_response 73 ctx) (λ bytes. refl) h.0 m g rest h.1
 backend_again ctx (backend.NoData m) g rest h =
-    one_again ctx backend.NoData 110 30000 (no_data_of ctx) NoBody (no_data ctx) (λ bytes. refl) h.0 m g rest h.1
+    one_again ctx backend.NoData 110 30000 (empty_response_of 110 ctx) NoBody (empty_response 110 ctx)
+    (λ bytes. refl) h.0 m g rest h.1
 backend_again ctx (backend.CommandComplete m) g rest h =
     one_again ctx backend.CommandComplete 67 30000 (command_complete_of ctx) SpellsCommandComplete
     (command_complete ctx) (λ bytes. refl) h.0 m g rest h.1
@@ -218,11 +223,11 @@ backend_again ctx (backend.ReadyForQuery m) g rest h =
     one_again ctx backend.ReadyForQuery 90 30000 (ready_for_query_of ctx) SpellsReadyForQuery
     (ready_for_query ctx) (λ bytes. refl) h.0 m g rest h.1
 backend_again ctx (backend.ErrorResponse m) g rest h =
-    one_again ctx backend.ErrorResponse 69 2147483647 (error_response_of ctx) SpellsErrorResponse
-    (error_response ctx) (λ bytes. refl) h.0 m g rest h.1
+    one_again ctx backend.ErrorResponse 69 2147483647 (info_response_of 69 ctx) SpellsInfoResponse
+    (info_response 69 ctx) (λ bytes. refl) h.0 m g rest h.1
 backend_again ctx (backend.NoticeResponse m) g rest h =
-    one_again ctx backend.NoticeResponse 78 2147483647 (notice_response_of ctx) SpellsNoticeResponse
-    (notice_response ctx) (λ bytes. refl) h.0 m g rest h.1
+    one_again ctx backend.NoticeResponse 78 2147483647 (info_response_of 78 ctx) SpellsInfoResponse
+    (info_response 78 ctx) (λ bytes. refl) h.0 m g rest h.1
 backend_again ctx (backend.NotificationResponse m) g rest h =
     one_again ctx backend.NotificationResponse 65 2147483647 (notification_response_of ctx)
     SpellsNotificationResponse (notification_response ctx) (λ bytes. refl) h.0 m g rest h.1
@@ -239,7 +244,7 @@ backend_again ctx (backend.CopyData m) g rest h =
     one_again ctx backend.CopyData 100 1073741822 (copy_data_of ctx) SpellsCopyData (copy_data ctx)
     (λ bytes. refl) h.0 m g rest h.1
 backend_again ctx (backend.CopyDone m) g rest h =
-    one_again ctx backend.CopyDone 99 10000 (copy_done_of ctx) SpellsCopyDone (copy_done ctx) (λ bytes. refl) h.0
+    one_again ctx backend.CopyDone 99 10000 (empty_request_of 99 ctx) NoBody (empty_request 99 ctx) (λ bytes. refl) h.0
     m g rest h.1
 backend_again ctx (backend.CopyFail m) g rest h =
     one_again ctx backend.CopyFail 102 10000 (copy_fail_of ctx) SpellsCopyFail (copy_fail ctx) (λ bytes. refl) h.0

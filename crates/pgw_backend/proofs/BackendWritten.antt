@@ -16,9 +16,9 @@ use Rattle.pgw_startup.specs.Login.{SpellsAuthentication, SpellsParameterStatus,
 use Rattle.pgw_startup.specs.Response.{ssl_byte, gss_byte}
 use Rattle.pgw_startup.proofs.LoginWritten.{authentication_written, parameter_status_written, backend_key_data_written, negotiate_written}
 use Rattle.pgw_startup.proofs.ResponseLaws.{ssl_written, gss_written}
-use Rattle.pgw_query.specs.Rows.{status_byte, codes, codes_fault, is_refused, row_description, data_row, notification_response, is_notification_refused, SpellsCommandComplete, SpellsReadyForQuery, SpellsErrorResponse, SpellsNoticeResponse, SpellsNotificationResponse, SpellsParameterDescription, SpellsRowDescription, SpellsDataRow}
+use Rattle.pgw_query.specs.Rows.{status_byte, codes, codes_fault, is_refused, row_description, data_row, notification_response, is_notification_refused, SpellsCommandComplete, SpellsReadyForQuery, SpellsNotificationResponse, SpellsParameterDescription, SpellsRowDescription, SpellsDataRow, SpellsInfoResponse}
 use Rattle.pgw_query.proofs.RowsWritten.{status_written, codes_written, notification_response_written, parameter_description_written, row_description_written, data_row_written}
-use Rattle.pgw_copy.specs.Rows.{SpellsCopyData, SpellsCopyDone, SpellsCopyFail}
+use Rattle.pgw_copy.specs.Rows.{SpellsCopyData, SpellsCopyFail}
 use Rattle.pgw_copy.proofs.RowsWritten.{copy_response_written}
 use Rattle.pgw_backend.specs.declared.backend.PgWireBackendMessage.{PgWireBackendMessage}
 use Rattle.pgw_backend.specs.declared.backend.PgWireBackendMessage.TheVariants as backend
@@ -67,10 +67,10 @@ backend_written version (backend.ReadyForQuery m) g sound suits is =
     typed_written 90 30000 SpellsReadyForQuery m None (status_byte m.status ∷ []) g (lit< tt) is
     (λ fine. status_written m.status)
 backend_written version (backend.ErrorResponse m) g sound suits is =
-    typed_written 69 2147483647 SpellsErrorResponse m (codes_fault m.fields) (codes m.fields) g (lit< tt) is
+    typed_written 69 2147483647 SpellsInfoResponse m (codes_fault m.fields) (codes m.fields) g (lit< tt) is
     (λ fine. codes_written m.fields sound fine)
 backend_written version (backend.NoticeResponse m) g sound suits is =
-    typed_written 78 2147483647 SpellsNoticeResponse m (codes_fault m.fields) (codes m.fields) g (lit< tt) is
+    typed_written 78 2147483647 SpellsInfoResponse m (codes_fault m.fields) (codes m.fields) g (lit< tt) is
     (λ fine. codes_written m.fields sound fine)
 backend_written version (backend.NotificationResponse m) g sound suits is =
     typed_written 65 2147483647 SpellsNotificationResponse m (refused_if (is_notification_refused m))
@@ -87,7 +87,7 @@ backend_written version (backend.DataRow m) g sound suits is =
 backend_written version (backend.CopyData m) g sound suits is =
     typed_written 100 1073741822 SpellsCopyData m None m.payload g (lit< tt) is (λ fine. refl)
 backend_written version (backend.CopyDone m) g sound suits is =
-    typed_written 99 10000 SpellsCopyDone m None [] g (lit< tt) is (λ fine. refl)
+    typed_written 99 10000 NoBody m None [] g (lit< tt) is (λ fine. refl)
 backend_written version (backend.CopyFail m) g sound suits is =
     typed_written 102 10000 SpellsCopyFail m (refused_if (has_zero m.message)) (text m.message) g (lit< tt) is
     (λ fine. text_written m.message (unrefused _ fine) sound)

@@ -10,12 +10,12 @@ use Rattle.pgw_wire.specs.Writing.{text, u32, has_zero, refused_if}
 use Rattle.pgw_wire.specs.Keys.{key_fault}
 use Rattle.pgw_startup.specs.Login.{authentication_of, parameter_status_of, backend_key_data_of, negotiate_of, authentication, authentication_fault, parameter_status, parameter_status_fault, backend_key_data, negotiate, is_options_refused}
 use Rattle.pgw_startup.specs.Response.{ssl_response_of, gss_enc_response_of, ssl_byte, gss_byte}
-use Rattle.pgw_query.specs.Rows.{ready_for_query_of, command_complete_of, empty_query_response_of, error_response_of, notice_response_of, notification_response_of, parameter_description_of, row_description_of, data_row_of, no_data_of, status_byte, codes, codes_fault, row_description, is_refused, data_row, notification_response, is_notification_refused}
-use Rattle.pgw_ext.specs.Rows.{parse_complete_of, bind_complete_of, close_complete_of, portal_suspended_of}
-use Rattle.pgw_copy.specs.Rows.{copy_data_of, copy_done_of, copy_fail_of, copy_response_of, formats, is_miscounted}
+use Rattle.pgw_query.specs.Rows.{ready_for_query_of, command_complete_of, notification_response_of, parameter_description_of, row_description_of, data_row_of, status_byte, codes, codes_fault, row_description, is_refused, data_row, notification_response, is_notification_refused, info_response_of}
+use Rattle.pgw_copy.specs.Rows.{copy_data_of, copy_fail_of, copy_response_of, formats, is_miscounted}
 use Rattle.pgw_backend.specs.declared.backend.PgWireBackendMessage.{PgWireBackendMessage}
 use Rattle.pgw_backend.specs.declared.backend.PgWireBackendMessage.TheVariants as backend
 use Rattle.pgw_wire.specs.declared.limits.TheConstants.{LARGE_LIMIT, LONG_LIMIT, SMALL_BACKEND_LIMIT, SMALL_LIMIT}
+use Rattle.pgw_wire.specs.Empty.{empty_request_of, empty_response_of}
 
 -- COPY; another byte is no message
 abbrev pub copy_by : ℕ → DecodeContext → List ℕ
@@ -24,7 +24,7 @@ copy_by byte ctx bytes =
     if byte == 100 then as_one_of backend.CopyData
     (wire_front (Typed 100) LARGE_LIMIT (copy_data_of ctx) bytes)
     else (if byte == 99 then as_one_of backend.CopyDone
-    (wire_front (Typed 99) SMALL_LIMIT (copy_done_of ctx) bytes)
+    (wire_front (Typed 99) SMALL_LIMIT (empty_request_of 99 ctx) bytes)
     else (if byte == 102 then as_one_of backend.CopyFail
     (wire_front (Typed 102) SMALL_LIMIT (copy_fail_of ctx) bytes)
     else (if byte == 71 then as_one_of backend.CopyInResponse
@@ -40,15 +40,15 @@ abbrev pub extended_by : ℕ → DecodeContext → List ℕ
     → Result (Option (PgWireBackendMessage × List ℕ)) PgWireError
 extended_by byte ctx bytes =
     if byte == 49 then as_one_of backend.ParseComplete
-    (wire_front (Typed 49) SMALL_BACKEND_LIMIT (parse_complete_of ctx) bytes)
+    (wire_front (Typed 49) SMALL_BACKEND_LIMIT (empty_response_of 49 ctx) bytes)
     else (if byte == 50 then as_one_of backend.BindComplete
-    (wire_front (Typed 50) SMALL_BACKEND_LIMIT (bind_complete_of ctx) bytes)
+    (wire_front (Typed 50) SMALL_BACKEND_LIMIT (empty_response_of 50 ctx) bytes)
     else (if byte == 51 then as_one_of backend.CloseComplete
-    (wire_front (Typed 51) SMALL_BACKEND_LIMIT (close_complete_of ctx) bytes)
+    (wire_front (Typed 51) SMALL_BACKEND_LIMIT (empty_response_of 51 ctx) bytes)
     else (if byte == 115 then as_one_of backend.PortalSuspended
-    (wire_front (Typed 115) SMALL_BACKEND_LIMIT (portal_suspended_of ctx) bytes)
+    (wire_front (Typed 115) SMALL_BACKEND_LIMIT (empty_response_of 115 ctx) bytes)
     else (if byte == 110 then as_one_of backend.NoData
-    (wire_front (Typed 110) SMALL_BACKEND_LIMIT (no_data_of ctx) bytes)
+    (wire_front (Typed 110) SMALL_BACKEND_LIMIT (empty_response_of 110 ctx) bytes)
     else (if byte == 116 then as_one_of backend.ParameterDescription
     (wire_front (Typed 116) LONG_LIMIT (parameter_description_of ctx) bytes)
     else (copy_by byte ctx bytes))))))
@@ -60,13 +60,13 @@ query_by byte ctx bytes =
     if byte == 67 then as_one_of backend.CommandComplete
     (wire_front (Typed 67) SMALL_BACKEND_LIMIT (command_complete_of ctx) bytes)
     else (if byte == 73 then as_one_of backend.EmptyQueryResponse
-    (wire_front (Typed 73) SMALL_BACKEND_LIMIT (empty_query_response_of ctx) bytes)
+    (wire_front (Typed 73) SMALL_BACKEND_LIMIT (empty_response_of 73 ctx) bytes)
     else (if byte == 90 then as_one_of backend.ReadyForQuery
     (wire_front (Typed 90) SMALL_BACKEND_LIMIT (ready_for_query_of ctx) bytes)
     else (if byte == 69 then as_one_of backend.ErrorResponse
-    (wire_front (Typed 69) LONG_LIMIT (error_response_of ctx) bytes)
+    (wire_front (Typed 69) LONG_LIMIT (info_response_of 69 ctx) bytes)
     else (if byte == 78 then as_one_of backend.NoticeResponse
-    (wire_front (Typed 78) LONG_LIMIT (notice_response_of ctx) bytes)
+    (wire_front (Typed 78) LONG_LIMIT (info_response_of 78 ctx) bytes)
     else (if byte == 65 then as_one_of backend.NotificationResponse
     (wire_front (Typed 65) LONG_LIMIT (notification_response_of ctx) bytes)
     else (if byte == 84 then as_one_of backend.RowDescription

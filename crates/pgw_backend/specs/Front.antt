@@ -8,8 +8,8 @@ use Rattle.pgw_backend.specs.declared.backend.PgWireBackendMessage.TheVariants a
 use Rattle.pgw_wire.specs.Formats.{SpellsTyped, NoBody}
 use Rattle.pgw_startup.specs.Login.{SpellsAuthentication, SpellsParameterStatus, SpellsBackendKeyData, SpellsNegotiate}
 use Rattle.pgw_startup.specs.Response.{SpellsSslResponse, SpellsGssEncResponse}
-use Rattle.pgw_query.specs.Rows.{SpellsCommandComplete, SpellsReadyForQuery, SpellsErrorResponse, SpellsNoticeResponse, SpellsNotificationResponse, SpellsParameterDescription, SpellsRowDescription, SpellsDataRow}
-use Rattle.pgw_copy.specs.Rows.{SpellsCopyData, SpellsCopyDone, SpellsCopyFail, SpellsCopyResponse}
+use Rattle.pgw_query.specs.Rows.{SpellsCommandComplete, SpellsReadyForQuery, SpellsNotificationResponse, SpellsParameterDescription, SpellsRowDescription, SpellsDataRow, SpellsInfoResponse}
+use Rattle.pgw_copy.specs.Rows.{SpellsCopyData, SpellsCopyFail, SpellsCopyResponse}
 use Rattle.pgw_backend.specs.Backend.{backend_front}
 use Rattle.pgw_wire.specs.declared.limits.TheConstants.{LARGE_LIMIT, LONG_LIMIT, SMALL_BACKEND_LIMIT, SMALL_LIMIT}
 
@@ -60,8 +60,8 @@ Spelled version (backend.CommandComplete m) =
     SpellsTyped 67 SMALL_BACKEND_LIMIT SpellsCommandComplete m
 Spelled version (backend.ReadyForQuery m) =
     SpellsTyped 90 SMALL_BACKEND_LIMIT SpellsReadyForQuery m
-Spelled version (backend.ErrorResponse m) = SpellsTyped 69 LONG_LIMIT SpellsErrorResponse m
-Spelled version (backend.NoticeResponse m) = SpellsTyped 78 LONG_LIMIT SpellsNoticeResponse m
+Spelled version (backend.ErrorResponse m) = SpellsTyped 69 LONG_LIMIT SpellsInfoResponse m
+Spelled version (backend.NoticeResponse m) = SpellsTyped 78 LONG_LIMIT SpellsInfoResponse m
 Spelled version (backend.NotificationResponse m) =
     SpellsTyped 65 LONG_LIMIT SpellsNotificationResponse m
 Spelled version (backend.ParameterDescription m) =
@@ -69,7 +69,7 @@ Spelled version (backend.ParameterDescription m) =
 Spelled version (backend.RowDescription m) = SpellsTyped 84 LONG_LIMIT SpellsRowDescription m
 Spelled version (backend.DataRow m) = SpellsTyped 68 LONG_LIMIT SpellsDataRow m
 Spelled version (backend.CopyData m) = SpellsTyped 100 LARGE_LIMIT SpellsCopyData m
-Spelled version (backend.CopyDone m) = SpellsTyped 99 SMALL_LIMIT SpellsCopyDone m
+Spelled version (backend.CopyDone m) = SpellsTyped 99 SMALL_LIMIT NoBody m
 Spelled version (backend.CopyFail m) = SpellsTyped 102 SMALL_LIMIT SpellsCopyFail m
 Spelled version (backend.CopyInResponse m) =
     SpellsTyped 71 SMALL_BACKEND_LIMIT SpellsCopyResponse m

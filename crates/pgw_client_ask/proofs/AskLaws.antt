@@ -4,7 +4,7 @@ use Rattle.std.specs.Prelude.{IfOk}
 use Rattle.pgw_backend.specs.declared.client_error.PgWireClientError.{PgWireClientError as ClientError}
 use Rattle.pgw_backend.specs.declared.client_error.PgWireClientError.TheVariants as client
 use Rattle.pgw_query.specs.declared.data.DataRow.{DataRow}
-use Rattle.pgw_query.specs.declared.response.ErrorResponse.{ErrorResponse}
+use Rattle.pgw_query.specs.Rows.{ErrorResponse}
 use Rattle.pgw_config.specs.declared.config.Config.{Config}
 use Rattle.pgw_session.specs.declared.types.Request.{Request}
 use Rattle.pgw_session.specs.declared.types.Request.TheVariants as request

@@ -7,8 +7,6 @@ use Rattle.pgw_ext.specs.declared.bind.Bind.{Bind}
 use Rattle.pgw_ext.specs.declared.execute.Execute.{Execute}
 use Rattle.pgw_ext.specs.declared.target.Describe.{Describe}
 use Rattle.pgw_ext.specs.declared.target.Close.{Close}
-use Rattle.pgw_ext.specs.declared.flush.Sync.{Sync}
-use Rattle.pgw_ext.specs.declared.flush.Flush.{Flush}
 use Rattle.pgw_backend.specs.declared.client_error.PgWireClientError.{PgWireClientError as ClientError}
 use Rattle.pgw_backend.specs.declared.client_error.PgWireClientError.TheVariants as client
 use Rattle.pgw_backend.specs.declared.backend.PgWireBackendMessage.{PgWireBackendMessage as Backend}
@@ -17,9 +15,8 @@ use Rattle.pgw_query.specs.declared.data.RowDescription.{RowDescription}
 use Rattle.pgw_query.specs.declared.data.DataRow.{DataRow}
 use Rattle.pgw_query.specs.declared.description.ParameterDescription.{ParameterDescription}
 use Rattle.pgw_query.specs.declared.response.CommandComplete.{CommandComplete}
-use Rattle.pgw_query.specs.declared.response.NoticeResponse.{NoticeResponse}
+use Rattle.pgw_query.specs.Rows.{NoticeResponse}
 use Rattle.pgw_query.specs.declared.notification.NotificationResponse.{NotificationResponse}
-use Rattle.pgw_ext.specs.declared.execute.PortalSuspended.{PortalSuspended}
 use Rattle.pgw_session.specs.declared.stage.Kind.{Kind}
 use Rattle.pgw_session.specs.declared.stage.Role.TheVariants.{Failing}
 use Rattle.pgw_handlers.specs.Client.{Client, Sight}
@@ -34,6 +31,8 @@ use Rattle.pgw_client_calls.specs.Extended.{Meaning, calls_for, call_for, HeedsB
 use Rattle.pgw_client_calls.specs.ExtendedSteps as steps
 use Rattle.pgw_client_calls.specs.ExtendedSteps.{Heeded, heeds, refuses, wants, TookMessage, Synced, spares, sends, cuts, SettlesSync, passed_answer, is_sync_due, state_or_error, HeededOne, TookOne, LineExchange, HeededNext, MakesCall, AnswersGathered, gathered_as}
 use Rattle.pgw_client_calls.proofs.CallLaws.{opened_well}
+use Rattle.pgw_wire.specs.declared.empty.EmptyRequest.{EmptyRequest}
+use Rattle.pgw_wire.specs.declared.empty.EmptyResponse.{EmptyResponse}
 
 -- ---- openings
 
@@ -93,8 +92,8 @@ opens_none M ms s is = subst (λ (l : List Frontend). CallsInOrder M (calls_for 
 pub opens_nothing : {H R : Type 0} (M : Meaning H R) (m : Frontend) (s : HandlerView H)
     → ((x : Parse) → m ≡ frontend.Parse x → ⊥) → ((x : Bind) → m ≡ frontend.Bind x → ⊥)
     → ((x : Execute) → m ≡ frontend.Execute x → ⊥) → ((x : Describe) → m ≡ frontend.Describe x → ⊥)
-    → ((x : Close) → m ≡ frontend.Close x → ⊥) → ((x : Sync) → m ≡ frontend.Sync x → ⊥)
-    → ((x : Flush) → m ≡ frontend.Flush x → ⊥) → CallsInOrder M (calls_for (m ∷ [])) s s (Ok tt)
+    → ((x : Close) → m ≡ frontend.Close x → ⊥) → ((x : EmptyRequest 83) → m ≡ frontend.Sync x → ⊥)
+    → ((x : EmptyRequest 72) → m ≡ frontend.Flush x → ⊥) → CallsInOrder M (calls_for (m ∷ [])) s s (Ok tt)
 opens_nothing M (frontend.Parse x) s a b c d e f g = absurd (a x refl)
 opens_nothing M (frontend.Bind x) s a b c d e f g = absurd (b x refl)
 opens_nothing M (frontend.Execute x) s a b c d e f g = absurd (c x refl)
@@ -111,7 +110,7 @@ pub heeded_none : {H R : Type 0} (M : Meaning H R) (h : H) (c : Client) (g : Gat
     → ((x : ParameterDescription) → m ≡ backend.ParameterDescription x → ⊥)
     → ((x : RowDescription) → m ≡ backend.RowDescription x → ⊥)
     → ((x : DataRow) → m ≡ backend.DataRow x → ⊥) → ((x : CommandComplete) → m ≡ backend.CommandComplete x → ⊥)
-    → ((x : PortalSuspended) → m ≡ backend.PortalSuspended x → ⊥)
+    → ((x : EmptyResponse 115) → m ≡ backend.PortalSuspended x → ⊥)
     → ((x : NoticeResponse) → m ≡ backend.NoticeResponse x → ⊥)
     → ((x : NotificationResponse) → m ≡ backend.NotificationResponse x → ⊥) → Heeded M h c g m h g (Ok tt)
 heeded_none M h c g (backend.ParameterDescription x) a b d e f i j = absurd (a x refl)
@@ -135,7 +134,7 @@ heeded_by M h c g m call after (Err e) is heard caused =
     refuses e (subst (λ (o : Option ExtendedCall). RefusesBy M o h c after e) (sym is) heard) caused
 
 pub heeded_done : {H R : Type 0} (M : Meaning H R) (h : H) (c : Client) (g : Gathered (List R))
-    (x : PortalSuspended) (after : H) (r : Result (Unit {0}) ClientError)
+    (x : EmptyResponse 115) (after : H) (r : Result (Unit {0}) ClientError)
     → M (standing h (fresh c)) on_portal_suspended (standing after (fresh c)) (given_nothing r)
     → OfError r 0 0 false
     → Heeded M h c g (backend.PortalSuspended x) after g r

@@ -7,12 +7,12 @@ use Rattle.pgw_types.specs.declared.context.DecodeContext.{DecodeContext}
 use Rattle.pgw_wire.specs.declared.framing.Framing.TheVariants.{Typed}
 use Rattle.pgw_wire.specs.Framing.{stated_length, length_frame, frame, framed, wire_front as front_by, as_one_of}
 use Rattle.pgw_wire.proofs.Laws.{bind_ok, chosen}
+use Rattle.pgw_wire.specs.Empty.{empty_request_of, empty_response_of}
 use Rattle.pgw_backend.specs.declared.backend.PgWireBackendMessage.{PgWireBackendMessage}
 use Rattle.pgw_backend.specs.declared.backend.PgWireBackendMessage.TheVariants as backend
 use Rattle.pgw_startup.specs.Login.{authentication_of, parameter_status_of, backend_key_data_of, negotiate_of}
-use Rattle.pgw_query.specs.Rows.{ready_for_query_of, command_complete_of, empty_query_response_of, error_response_of, notice_response_of, notification_response_of, parameter_description_of, row_description_of, data_row_of, no_data_of}
-use Rattle.pgw_ext.specs.Rows.{parse_complete_of, bind_complete_of, close_complete_of, portal_suspended_of}
-use Rattle.pgw_copy.specs.Rows.{copy_data_of, copy_done_of, copy_fail_of, copy_response_of}
+use Rattle.pgw_query.specs.Rows.{ready_for_query_of, command_complete_of, notification_response_of, parameter_description_of, row_description_of, data_row_of, info_response_of}
+use Rattle.pgw_copy.specs.Rows.{copy_data_of, copy_fail_of, copy_response_of}
 use Rattle.pgw_backend.specs.Backend.{backend_by, backend_typed_front, backend_front}
 use Rattle.pgw_backend.specs.Front.{front, front_of, typed_phase, More}
 use Rattle.pgw_client_calls.specs.Reading.{awaited}
@@ -75,21 +75,21 @@ by_waits byte ctx =
     (choice (eqb byte 75) _ _ (one backend.BackendKeyData 75 30000 (backend_key_data_of ctx))
     (choice (eqb byte 118) _ _ (one backend.NegotiateProtocolVersion 118 30000 (negotiate_of ctx))
     (choice (eqb byte 67) _ _ (one backend.CommandComplete 67 30000 (command_complete_of ctx))
-    (choice (eqb byte 73) _ _ (one backend.EmptyQueryResponse 73 30000 (empty_query_response_of ctx))
+    (choice (eqb byte 73) _ _ (one backend.EmptyQueryResponse 73 30000 (empty_response_of 73 ctx))
     (choice (eqb byte 90) _ _ (one backend.ReadyForQuery 90 30000 (ready_for_query_of ctx))
-    (choice (eqb byte 69) _ _ (one backend.ErrorResponse 69 2147483647 (error_response_of ctx))
-    (choice (eqb byte 78) _ _ (one backend.NoticeResponse 78 2147483647 (notice_response_of ctx))
+    (choice (eqb byte 69) _ _ (one backend.ErrorResponse 69 2147483647 (info_response_of 69 ctx))
+    (choice (eqb byte 78) _ _ (one backend.NoticeResponse 78 2147483647 (info_response_of 78 ctx))
     (choice (eqb byte 65) _ _ (one backend.NotificationResponse 65 2147483647 (notification_response_of ctx))
     (choice (eqb byte 84) _ _ (one backend.RowDescription 84 2147483647 (row_description_of ctx))
     (choice (eqb byte 68) _ _ (one backend.DataRow 68 2147483647 (data_row_of ctx))
-    (choice (eqb byte 49) _ _ (one backend.ParseComplete 49 30000 (parse_complete_of ctx))
-    (choice (eqb byte 50) _ _ (one backend.BindComplete 50 30000 (bind_complete_of ctx))
-    (choice (eqb byte 51) _ _ (one backend.CloseComplete 51 30000 (close_complete_of ctx))
-    (choice (eqb byte 115) _ _ (one backend.PortalSuspended 115 30000 (portal_suspended_of ctx))
-    (choice (eqb byte 110) _ _ (one backend.NoData 110 30000 (no_data_of ctx))
+    (choice (eqb byte 49) _ _ (one backend.ParseComplete 49 30000 (empty_response_of 49 ctx))
+    (choice (eqb byte 50) _ _ (one backend.BindComplete 50 30000 (empty_response_of 50 ctx))
+    (choice (eqb byte 51) _ _ (one backend.CloseComplete 51 30000 (empty_response_of 51 ctx))
+    (choice (eqb byte 115) _ _ (one backend.PortalSuspended 115 30000 (empty_response_of 115 ctx))
+    (choice (eqb byte 110) _ _ (one backend.NoData 110 30000 (empty_response_of 110 ctx))
     (choice (eqb byte 116) _ _ (one backend.ParameterDescription 116 2147483647 (parameter_description_of ctx))
     (choice (eqb byte 100) _ _ (one backend.CopyData 100 1073741822 (copy_data_of ctx))
-    (choice (eqb byte 99) _ _ (one backend.CopyDone 99 10000 (copy_done_of ctx))
+    (choice (eqb byte 99) _ _ (one backend.CopyDone 99 10000 (empty_request_of 99 ctx))
     (choice (eqb byte 102) _ _ (one backend.CopyFail 102 10000 (copy_fail_of ctx))
     (choice (eqb byte 71) _ _ (one backend.CopyInResponse 71 30000 (copy_response_of 71 ctx))
     (choice (eqb byte 72) _ _ (one backend.CopyOutResponse 72 30000 (copy_response_of 72 ctx))

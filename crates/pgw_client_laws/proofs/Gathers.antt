@@ -8,11 +8,7 @@ use Rattle.pgw_query.specs.declared.data.DataRow.{DataRow}
 use Rattle.pgw_query.specs.declared.data.RowDescription.{RowDescription}
 use Rattle.pgw_query.specs.declared.description.ParameterDescription.{ParameterDescription}
 use Rattle.pgw_query.specs.declared.response.CommandComplete.{CommandComplete}
-use Rattle.pgw_query.specs.declared.response.EmptyQueryResponse.{EmptyQueryResponse}
-use Rattle.pgw_query.specs.declared.response.ErrorResponse.{ErrorResponse}
-use Rattle.pgw_ext.specs.declared.bind.BindComplete.{BindComplete}
-use Rattle.pgw_query.specs.declared.description.NoData.{NoData}
-use Rattle.pgw_ext.specs.declared.execute.PortalSuspended.{PortalSuspended}
+use Rattle.pgw_query.specs.Rows.{ErrorResponse}
 use Rattle.pgw_query.specs.declared.response.ReadyForQuery.{ReadyForQuery}
 use Rattle.pgw_query.specs.declared.notification.NotificationResponse.{NotificationResponse}
 use Rattle.pgw_session.specs.declared.types.ExecuteResult.{ExecuteResult}
@@ -37,6 +33,7 @@ use Rattle.pgw_client_calls.specs.declared.gathered.Gathered.{Gathered}
 use Rattle.pgw_client_calls.specs.Extended.{none_gathered, with_gift, Heeds, is_suspended, call_role}
 use Rattle.pgw_handlers.specs.Extended.{Gift, Given, response, nothing}
 use Rattle.pgw_client_laws.specs.Extended.{IsExtended, call_answer}
+use Rattle.pgw_wire.specs.declared.empty.EmptyResponse.{EmptyResponse}
 
 -- a row of the table of extended queries
 abbrev pub IsAsked : Kind → Type 0
@@ -103,13 +100,13 @@ complete_kind kind.Simple m r a is = absurd a
 complete_kind kind.Query m r a is = refl
 complete_kind k m r a is = absurd (cc)
 
-empty_kind : (k : Kind) (m : EmptyQueryResponse) (r : Bool) → IsAsked k
+empty_kind : (k : Kind) (m : EmptyResponse 73) (r : Bool) → IsAsked k
     → role k false (backend.EmptyQueryResponse m) ≡ Taken r → k ≡ kind.Query
 empty_kind kind.Simple m r a is = absurd a
 empty_kind kind.Query m r a is = refl
 empty_kind k m r a is = absurd (cc)
 
-suspended_kind : (k : Kind) (m : PortalSuspended) (r : Bool) → role k false (backend.PortalSuspended m) ≡ Taken r
+suspended_kind : (k : Kind) (m : EmptyResponse 115) (r : Bool) → role k false (backend.PortalSuspended m) ≡ Taken r
     → ⊥
 suspended_kind kind.Execute m r is = cc
 suspended_kind k m r is = cc
@@ -226,7 +223,7 @@ module _ (k : Kind) (h after : DefaultExtendedQueryHandler) (c : Client) (g more
       (subst (λ (x : Gathered (List DataRow)). Gathers k x (with_end t.executed u (execute.Complete t.rows)))
       (sym is) (ended_gathers u t.executed query refl refl refl refl s.remote refl))
 
-  empty_gathers : (m : EmptyQueryResponse) → k ≡ kind.Query → more ≡ g
+  empty_gathers : (m : EmptyResponse 73) → k ≡ kind.Query → more ≡ g
       → Gathers k more (tally_after t (backend.EmptyQueryResponse m))
   empty_gathers m query is =
       let u : Tally = record t { responses = t.responses ++ response_kind.EmptyQuery ∷ [] } in
@@ -291,12 +288,12 @@ ready_plain : (q : Request) (m : ReadyForQuery) → role (kind_of q) false (back
 ready_plain (request.Execute portal max_rows) m is = cc
 ready_plain q m is = tt
 
-bind_plain : (q : Request) (m : BindComplete) → role (kind_of q) false (backend.BindComplete m) ≡ Closing
+bind_plain : (q : Request) (m : EmptyResponse 50) → role (kind_of q) false (backend.BindComplete m) ≡ Closing
     → IsPlain q
 bind_plain (request.Execute portal max_rows) m is = cc
 bind_plain q m is = tt
 
-none_plain : (q : Request) (m : NoData) → role (kind_of q) false (backend.NoData m) ≡ Closing → IsPlain q
+none_plain : (q : Request) (m : EmptyResponse 110) → role (kind_of q) false (backend.NoData m) ≡ Closing → IsPlain q
 none_plain (request.Execute portal max_rows) m is = cc
 none_plain q m is = tt
 
@@ -400,7 +397,7 @@ taken_false k m rows a is = subst Undescribed is (undescribed k m a)
 
 -- ---- the closing message
 
-suspended_answer : (q : Request) (m : PortalSuspended) (g : Gathered (List DataRow)) (t : Tally) → IsExtended q
+suspended_answer : (q : Request) (m : EmptyResponse 115) (g : Gathered (List DataRow)) (t : Tally) → IsExtended q
     → role (kind_of q) false (backend.PortalSuspended m) ≡ Closing → Gathers (kind_of q) g t
     → answer_by q (tally_after t (backend.PortalSuspended m)) ≡ call_answer q (g, true)
 suspended_answer (request.Simple query) m g t e is s = absurd e

@@ -7,8 +7,7 @@ use Rattle.pgw_backend.specs.declared.client_error.PgWireClientError.{PgWireClie
 use Rattle.pgw_backend.specs.declared.client_error.PgWireClientError.TheVariants as client
 use Rattle.pgw_query.specs.declared.data.DataRow.{DataRow}
 use Rattle.pgw_query.specs.declared.response.CommandComplete.{CommandComplete}
-use Rattle.pgw_query.specs.declared.response.EmptyQueryResponse.{EmptyQueryResponse}
-use Rattle.pgw_query.specs.declared.response.ErrorResponse.{ErrorResponse}
+use Rattle.pgw_query.specs.Rows.{ErrorResponse}
 use Rattle.pgw_query.specs.declared.response.ReadyForQuery.{ReadyForQuery}
 use Rattle.pgw_session.specs.declared.types.Request.TheVariants as request
 use Rattle.pgw_session.specs.declared.types.Response.{Response}
@@ -41,6 +40,7 @@ use Rattle.pgw_client_laws.proofs.Tallies.{fold_remote, error_remote}
 use Rattle.pgw_client_laws.proofs.Called.{called, cut_opening}
 use Rattle.pgw_client_laws.proofs.Exchanges.{exchanged_none, got_one, got_last}
 use Rattle.pgw_client_laws.proofs.Came.{in_place_of_none, Shape, Came, within, taken_onto, came_onto, lacking, lacked, Lacking, AreQuiet, PassingTo, passing_to, kept_stays}
+use Rattle.pgw_wire.specs.declared.empty.EmptyResponse.{EmptyResponse}
 
 -- ---- what a message does to the tally
 
@@ -63,7 +63,7 @@ follows_complete : (t : Tally) (m : CommandComplete) (x : Option (ExecuteResult 
 follows_complete t m None is none = rw (none, is) (refl, refl, refl)
 follows_complete t m (Some x) is none = rw (none, is) (refl, refl, refl)
 
-follows_empty : (t : Tally) (m : EmptyQueryResponse) (x : Option (ExecuteResult (List DataRow))) → t.executed ≡ x
+follows_empty : (t : Tally) (m : EmptyResponse 73) (x : Option (ExecuteResult (List DataRow))) → t.executed ≡ x
     → t.remote ≡ None → Follows t (backend.EmptyQueryResponse m) (is_some t.opened)
 follows_empty t m None is none = rw (none, is) (refl, refl, refl)
 follows_empty t m (Some x) is none = rw (none, is) (refl, refl, refl)

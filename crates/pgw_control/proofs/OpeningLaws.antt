@@ -1,5 +1,5 @@
 -- What a client sends before its Startup: what is read is what is spelled.
-use Rattle.std.proofs.Common.{◌≡◌, inl, inr, ℕ, ◌<◌, ◌≤◌, ◌^◌, true, false, ltb, eqb, List, [], ◌++◌, length, take, drop, Option, Some, None, Result, Ok, Err, refl, sym, ap, subst, ◌∙◌, append_assoc, arith, lit<, length-append}
+use Rattle.std.proofs.Common.{◌≡◌, inl, inr, ℕ, ◌<◌, ◌≤◌, ◌^◌, true, false, ltb, eqb, List, ◌++◌, length, take, drop, Option, Some, None, Result, Ok, Err, refl, sym, ap, subst, ◌∙◌, append_assoc, arith, lit<, length-append}
 use Rattle.std.specs.Int.{w32, from_be_bytes}
 use Rattle.std.proofs.lemmas.Bool.{ltb-false, le-ltb, eqb-true, eq-eqb}
 use Rattle.std.proofs.lemmas.List.{take_at, drop_at, take-append-drop, length-take, length-drop, drop-drop}
@@ -13,20 +13,18 @@ use Rattle.pgw_wire.specs.declared.secret_key.SecretKey.TheVariants.{I32, Bytes}
 use Rattle.pgw_wire.specs.declared.framing.Framing.TheVariants.{Untyped, Opening, Code}
 use Rattle.pgw_wire.specs.Reading.{nat_at, int_at, rest_at, all_of}
 use Rattle.pgw_wire.specs.Framing.{code_in, frame, framed, wire_front}
-use Rattle.pgw_wire.specs.Formats.{IsRow, NoBody, pair_at, Pair, made_at, tried_at, SpellsNat, SpellsInt, ReadsLast, SpellsUntyped}
+use Rattle.pgw_wire.specs.Formats.{pair_at, Pair, made_at, tried_at, SpellsNat, SpellsInt, ReadsLast, SpellsUntyped}
 use Rattle.pgw_wire.specs.Keys.{key_of, SpellsKey}
-use Rattle.pgw_wire.proofs.Laws.{bind_ok, ok_is, chosen, which, tried_some}
+use Rattle.pgw_wire.proofs.Laws.{bind_ok, chosen, which, tried_some}
 use Rattle.pgw_wire.proofs.FieldLaws.{nat_reads, int_reads}
 use Rattle.pgw_wire.proofs.FrameLaws.{reads_last, pair_last, made_last, all_found, all_again}
 use Rattle.pgw_wire.proofs.MarkLaws.{key_reads}
-use Rattle.pgw_wire.proofs.MessageLaws.{some_is, is_row}
+use Rattle.pgw_wire.proofs.MessageLaws.{some_is}
 use Rattle.pgw_control.specs.declared.ssl_request.SslRequest.{SslRequest}
 use Rattle.pgw_control.specs.declared.gss_enc_request.GssEncRequest.{GssEncRequest}
 use Rattle.pgw_control.specs.declared.cancel.CancelRequest.{CancelRequest}
 use Rattle.pgw_control.specs.Openings.{has_code, only_code, ssl_request_of, gss_enc_request_of, cancel_from, cancel_request_of, SpellsCancelRequest, SpellsCoded}
 use Rattle.pgw_wire.proofs.UntypedLaws.{untyped_found, untyped_again}
-use Rattle.pgw_control.specs.declared.terminate.Terminate.{Terminate}
-use Rattle.pgw_control.specs.Terminate.{terminate_of}
 
 -- ---- which code stands there
 
@@ -301,18 +299,3 @@ pub gss_again : (ctx : DecodeContext) (m : GssEncRequest) (g rest : List ℕ) �
     → wire_front Code 10000 (gss_enc_request_of ctx) (g ++ rest) ≡ Ok (Some (m, rest))
 unfolding gss_enc_request_of
 gss_again ctx m = coded_again 80877104 (record {}) InvalidGssEncRequestMessage
-
--- ---- Terminate
-
-empty_reads : ReadsLast (λ bytes. Ok (record {}, bytes)) (NoBody {M = Terminate})
-empty_reads = record {
-  found = λ bytes n rest short e.
-      let made : Terminate × List ℕ = (record {}, bytes) in
-      subst (λ (y : Terminate × List ℕ). (f : List ℕ) × (bytes ≡ f ++ y.1) × NoBody y.0 f)
-      (ok_is made (n, rest) e) ([], refl, refl);
-  only = λ n wire_front h. rw h refl;
-}
-
-pub terminate : (ctx : DecodeContext) → IsRow 88 10000 (terminate_of ctx) NoBody
-unfolding terminate_of
-terminate ctx = is_row 88 10000 (lit< tt) (λ bytes. Ok (record {}, bytes)) NoBody empty_reads

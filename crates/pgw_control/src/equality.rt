@@ -4,7 +4,6 @@ ghost use Rattle.pgw_wire.specs.Equal.{IsExact};
 use crate::cancel::CancelRequest;
 use crate::gss_enc_request::GssEncRequest;
 use crate::ssl_request::SslRequest;
-use crate::terminate::Terminate;
 use pgw_wire::equality;
 
 /// Two messages are equal exactly where they are the same.
@@ -12,7 +11,6 @@ pub fn equality_is_exact()
     ensures ssl_request { IsExact ⟦<SslRequest as PartialEq>⟧.eq }
     ensures gss_enc_request { IsExact ⟦<GssEncRequest as PartialEq>⟧.eq }
     ensures cancel_request { IsExact ⟦<CancelRequest as PartialEq>⟧.eq }
-    ensures terminate { IsExact ⟦<Terminate as PartialEq>⟧.eq }
 {
     equality::equality_is_exact();
 }

@@ -4,14 +4,13 @@ ghost use Rattle.pgw_types.specs.declared.context.DecodeContext.{DecodeContext a
 ghost use Rattle.pgw_types.specs.declared.context.ProtocolVersion.{ProtocolVersion as TheVersion};
 ghost use Rattle.pgw_wire.specs.declared.framing.Framing.TheVariants.{Opening, Code};
 ghost use Rattle.pgw_wire.specs.Framing.{wire_front, encoded};
-ghost use Rattle.pgw_wire.specs.Formats.{IsRow, NoBody, SpellsUntyped};
+ghost use Rattle.pgw_wire.specs.Formats.{SpellsUntyped};
 ghost use Rattle.pgw_wire.specs.Keys.{key_fault, SuitsKey};
 ghost use Rattle.pgw_wire.specs.Writing.{u32};
 ghost use Rattle.pgw_control.specs.declared.cancel.CancelRequest.{CancelRequest as TheCancel};
 ghost use Rattle.pgw_control.specs.declared.ssl_request.SslRequest.{SslRequest as TheSsl};
 ghost use Rattle.pgw_control.specs.declared.gss_enc_request.GssEncRequest.{GssEncRequest as TheGss};
 ghost use Rattle.pgw_control.specs.Sound.{IsCancelRequest};
-ghost use Rattle.pgw_control.specs.Terminate.{terminate_of};
 ghost use Rattle.pgw_control.specs.Openings.{has_code, ssl_request_of, gss_enc_request_of, cancel_request_of, cancel_request, SpellsCancelRequest, SpellsCoded};
 ghost use Rattle.pgw_wire.specs.declared.limits.TheConstants.{SMALL_LIMIT};
 
@@ -29,7 +28,6 @@ pub fn what_is_read_is_spelled()
         (Some (m, rest)) →
         (g : List ℕ) × (bytes ≡ g ++ rest) × SpellsUntyped SMALL_LIMIT
         (SpellsCancelRequest ctx.protocol_version) m g }
-    ensures terminate { (ctx : TheContext) → IsRow 88 SMALL_LIMIT (terminate_of ctx) NoBody }
 {}
 
 /// What is spelled so is read, whatever follows it.

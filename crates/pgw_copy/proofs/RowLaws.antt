@@ -1,14 +1,12 @@
 -- Each row of the message table is exact.
-use Rattle.std.proofs.Common.{◌≡◌, ℕ, List, [], ◌++◌, Ok, refl, subst, lit<}
+use Rattle.std.proofs.Common.{ℕ, refl, lit<}
 use Rattle.pgw_types.specs.declared.context.DecodeContext.{DecodeContext}
 use Rattle.pgw_wire.specs.Reading.{text_at, rest_at}
 use Rattle.pgw_wire.specs.Formats.{IsRow, SpellsText, IsRest}
-use Rattle.pgw_wire.proofs.Laws.{ok_is}
 use Rattle.pgw_wire.proofs.FieldLaws.{text_reads}
 use Rattle.pgw_wire.proofs.FrameLaws.{reads_last, rest_reads, made_last}
 use Rattle.pgw_wire.proofs.MessageLaws.{is_row}
-use Rattle.pgw_copy.specs.declared.data.CopyDone.{CopyDone}
-use Rattle.pgw_copy.specs.Rows.{columns_at, SpellsColumns, copy_data_of, SpellsCopyData, copy_done_of, SpellsCopyDone, copy_fail_of, SpellsCopyFail, copy_response_of, SpellsCopyResponse}
+use Rattle.pgw_copy.specs.Rows.{columns_at, SpellsColumns, copy_data_of, SpellsCopyData, copy_fail_of, SpellsCopyFail, copy_response_of, SpellsCopyResponse}
 use Rattle.pgw_copy.proofs.ColumnLaws.{columns_reads}
 
 pub copy_data : (ctx : DecodeContext) → IsRow 100 1073741822 (copy_data_of ctx) SpellsCopyData
@@ -17,16 +15,6 @@ copy_data ctx =
     is_row 100 1073741822 (lit< tt) _ SpellsCopyData
     (made_last (λ b. record { payload = b }) (λ m. m.payload) rest_at IsRest (λ x. refl) (λ y. refl)
     rest_reads)
-
-pub copy_done : (ctx : DecodeContext) → IsRow 99 10000 (copy_done_of ctx) SpellsCopyDone
-unfolding copy_done_of
-copy_done ctx = is_row 99 10000 (lit< tt) (λ bytes. Ok (record {}, bytes)) SpellsCopyDone (record {
-  found = λ bytes m rest short e.
-      let made : CopyDone × List ℕ = (record {}, bytes) in
-      subst (λ (y : CopyDone × List ℕ). (f : List ℕ) × (bytes ≡ f ++ y.1) × SpellsCopyDone y.0 f)
-      (ok_is made (m, rest) e) ([], refl, refl);
-  only = λ m front h. rw h refl;
-})
 
 pub copy_fail : (ctx : DecodeContext) → IsRow 102 10000 (copy_fail_of ctx) SpellsCopyFail
 unfolding copy_fail_of

@@ -1,32 +1,24 @@
 -- The messages of COPY (PostgreSQL 18, section 54.7, Message Formats).
-use Rattle.std.specs.Prelude.{◌≡◌, ℕ, ℤ, pos, Bool, not, List, [], ◌∷◌, ◌++◌, length, Result, Ok}
+use Rattle.std.specs.Prelude.{◌≡◌, ℕ, ℤ, pos, Bool, not, List, ◌∷◌, ◌++◌, length, Result, Ok}
 use Rattle.std.specs.Ordering.{int_eq}
 use Rattle.std.specs.List.{flat_map}
 use Rattle.std.specs.Int.{w8, w16, cast_unsigned}
 use Rattle.pgw_types.specs.declared.error.PgWireError.{PgWireError}
 use Rattle.pgw_types.specs.declared.context.DecodeContext.{DecodeContext}
-use Rattle.pgw_wire.specs.Reading.{◌>>=◌, int_at, text_at, rest_at, all_of, list_at, extended_count}
+use Rattle.pgw_wire.specs.Reading.{int_at, text_at, rest_at, all_of, list_at, extended_count}
 use Rattle.pgw_wire.specs.Formats.{Pair, made_at, SpellsText, SpellsInt, SpellsCounted, IsRest}
 use Rattle.pgw_wire.specs.Writing.{i16}
 use Rattle.pgw_copy.specs.declared.data.CopyData.{CopyData}
-use Rattle.pgw_copy.specs.declared.data.CopyDone.{CopyDone}
 use Rattle.pgw_copy.specs.declared.data.CopyFail.{CopyFail}
 use Rattle.pgw_copy.specs.declared.response.CopyResponse.{CopyResponse}
 
--- ---- CopyData, CopyDone, CopyFail
+-- ---- CopyData, CopyFail
 
 unfoldable pub copy_data_of : DecodeContext → List ℕ → Result CopyData PgWireError
 copy_data_of ctx bytes = all_of (made_at (λ b. record { payload = b }) rest_at bytes)
 
 abbrev pub SpellsCopyData : CopyData → List ℕ → Type 0
 SpellsCopyData m = IsRest m.payload
-
--- a body without bytes
-unfoldable pub copy_done_of : DecodeContext → List ℕ → Result CopyDone PgWireError
-copy_done_of ctx bytes = all_of (Ok (record {}, bytes))
-
-abbrev pub SpellsCopyDone : CopyDone → List ℕ → Type 0
-SpellsCopyDone m bytes = bytes ≡ []
 
 unfoldable pub copy_fail_of : DecodeContext → List ℕ → Result CopyFail PgWireError
 copy_fail_of ctx bytes = all_of (made_at (λ t. record { message = t }) text_at bytes)

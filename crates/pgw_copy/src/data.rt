@@ -1,8 +1,8 @@
 //! Data, and its end.
-ghost use Rattle.std.specs.Prelude.{◌≡◌, [], None};
+ghost use Rattle.std.specs.Prelude.{◌≡◌, None};
 ghost use Rattle.pgw_wire.specs.declared.framing.Framing.TheVariants.{Typed};
 ghost use Rattle.pgw_wire.specs.Writing.{text, has_zero as holds_zero, refused_if};
-ghost use Rattle.pgw_copy.specs.Rows.{copy_data_of, copy_done_of, copy_fail_of};
+ghost use Rattle.pgw_copy.specs.Rows.{copy_data_of, copy_fail_of};
 ghost use Rattle.pgw_wire.specs.declared.limits.TheConstants.{LARGE_LIMIT, SMALL_LIMIT};
 
 use pgw_types::context::DecodeContext;
@@ -11,6 +11,7 @@ use pgw_types::listed::Duplicate;
 use pgw_types::memory::OutOfMemory;
 use pgw_types::octets::Octets;
 use pgw_types::text::Text;
+use pgw_wire::empty::EmptyRequest;
 use pgw_wire::framing::Framing;
 use pgw_wire::limits::{LARGE_LIMIT, SMALL_LIMIT};
 use pgw_wire::message::Message;
@@ -87,60 +88,7 @@ impl Duplicate for CopyData {
 }
 
 /// The data is complete (CopyDone).
-#[derive(Clone, Copy, Debug, PartialEq, Eq)]
-pub struct CopyDone;
-
-impl CopyDone {
-    pub fn new() -> CopyDone
-        ensures { result ≡ record {} }
-    {
-        CopyDone
-    }
-}
-
-impl Message for CopyDone {
-    ghost row_framing = { Typed 99 };
-
-    ghost limit = { SMALL_LIMIT };
-
-    ghost reading = { copy_done_of };
-
-    ghost written = { λ m. [] };
-
-    ghost fault = { λ m. None };
-
-    fn framing() -> Framing {
-        Framing::Typed(MESSAGE_TYPE_BYTE_COPY_DONE)
-    }
-
-    fn max_message_length() -> usize {
-        SMALL_LIMIT
-    }
-
-    fn message_length(&self) -> usize {
-        4
-    }
-
-    fn refusal(&self) -> Option<PgWireError> {
-        None
-    }
-
-    fn put_body(&self, _out: &mut Writer) -> Result<(), OutOfMemory> {
-        Ok(())
-    }
-
-    #[tactic(auto, unfolding(crate::specs::Rows::copy_done_of))]
-    fn decode_body(_alloc: Global, body: &Octets, _ctx: &DecodeContext) -> PgWireResult<CopyDone> {
-        FieldReader::new(body).finish()?;
-        Ok(CopyDone)
-    }
-}
-
-impl Duplicate for CopyDone {
-    fn duplicate(&self) -> Result<CopyDone, OutOfMemory> {
-        Ok(CopyDone)
-    }
-}
+pub type CopyDone = EmptyRequest<MESSAGE_TYPE_BYTE_COPY_DONE>;
 
 /// The data can't be completed, and why (CopyFail).
 #[derive(Debug, Drop, PartialEq, Eq)]

@@ -9,15 +9,13 @@ ghost use Rattle.pgw_copy.specs.declared.data.CopyData.{CopyData as TheCopyData}
 ghost use Rattle.pgw_copy.specs.declared.data.CopyFail.{CopyFail as TheCopyFail};
 ghost use Rattle.pgw_copy.specs.declared.response.CopyResponse.{CopyResponse as TheCopyResponse};
 ghost use Rattle.pgw_copy.specs.Sound.{IsCopyFail, AreColumns};
-ghost use Rattle.pgw_copy.specs.Rows.{formats, is_miscounted, copy_data_of, SpellsCopyData, copy_done_of, SpellsCopyDone, copy_fail_of, SpellsCopyFail, copy_response_of, SpellsCopyResponse};
+ghost use Rattle.pgw_copy.specs.Rows.{formats, is_miscounted, copy_data_of, SpellsCopyData, copy_fail_of, SpellsCopyFail, copy_response_of, SpellsCopyResponse};
 ghost use Rattle.pgw_wire.specs.declared.limits.TheConstants.{LARGE_LIMIT, SMALL_BACKEND_LIMIT, SMALL_LIMIT};
 
 /// What is read at the front of some bytes is spelled so, and what is spelled so is read, whatever follows it.
 pub fn rows_are_exact()
     ensures copy_data { (ctx : TheContext) → IsRow 100 LARGE_LIMIT (copy_data_of ctx)
         SpellsCopyData }
-    ensures copy_done { (ctx : TheContext) →
-        IsRow 99 SMALL_LIMIT (copy_done_of ctx) SpellsCopyDone }
     ensures copy_fail { (ctx : TheContext) →
         IsRow 102 SMALL_LIMIT (copy_fail_of ctx) SpellsCopyFail }
     ensures copy_response { (byte : ℕ) (ctx : TheContext) →

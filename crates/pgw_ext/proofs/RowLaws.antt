@@ -3,19 +3,19 @@ use Rattle.std.proofs.Common.{refl, arith, lit<}
 use Rattle.std.specs.Int.{w8, w16, w32}
 use Rattle.pgw_types.specs.declared.context.DecodeContext.{DecodeContext}
 use Rattle.pgw_wire.specs.Reading.{nat_at, int_at, text_at, name_at}
-use Rattle.pgw_wire.specs.Formats.{IsRow, NoBody, ReadsFormat, ReadsLast, SpellsText, SpellsNat, SpellsInt, SpellsName}
+use Rattle.pgw_wire.specs.Formats.{IsRow, ReadsFormat, ReadsLast, SpellsText, SpellsNat, SpellsInt, SpellsName}
 use Rattle.pgw_wire.proofs.Laws.{pair_reads}
 use Rattle.pgw_wire.proofs.FieldLaws.{text_reads, nat_reads, int_reads}
 use Rattle.pgw_wire.proofs.FrameLaws.{reads_last, made_last}
 use Rattle.pgw_wire.proofs.MarkLaws.{name_reads}
-use Rattle.pgw_wire.proofs.MessageLaws.{is_row, no_body_row}
+use Rattle.pgw_wire.proofs.MessageLaws.{is_row}
 use Rattle.pgw_wire.specs.Values.{nullable_at, SpellsNullable}
 use Rattle.pgw_wire.specs.Counted.{counted16_at, SpellsCounted16}
-use Rattle.pgw_ext.specs.Rows.{parse_from, parse_of, SpellsParse, parse_complete_of, bind_from, bind_parts, bind_of, SpellsBind, bind_complete_of, target_at, SpellsTarget, close_of, SpellsClose, close_complete_of, describe_of, SpellsDescribe, execute_of, SpellsExecute, portal_suspended_of, flush_of, sync_of}
+use Rattle.pgw_ext.specs.Rows.{parse_from, parse_of, SpellsParse, bind_from, bind_parts, bind_of, SpellsBind, target_at, SpellsTarget, close_of, SpellsClose, describe_of, SpellsDescribe, execute_of, SpellsExecute}
 use Rattle.pgw_wire.proofs.ValueLaws.{nullable_reads, nullable_least}
 use Rattle.pgw_wire.proofs.CountedLaws.{counted16_reads}
 
--- ---- Parse, ParseComplete
+-- ---- Parse
 
 oids_reads : ReadsFormat (counted16_at 4 (nat_at w32)) (SpellsCounted16 (SpellsNat w32))
 oids_reads = counted16_reads (nat_at w32) (SpellsNat w32) 4 (λ x f h. omega (arith, h.0)) (nat_reads w32)
@@ -27,11 +27,7 @@ parse ctx = is_row 80 1073741822 (lit< tt) _ SpellsParse
     (reads_last _ _ (pair_reads name_at SpellsName _ _ name_reads
     (pair_reads text_at SpellsText _ _ text_reads oids_reads))))
 
-pub parse_complete : (ctx : DecodeContext) → IsRow 49 30000 (parse_complete_of ctx) NoBody
-unfolding parse_complete_of
-parse_complete ctx = no_body_row 49 30000 (lit< tt) (record {}) (λ n. refl)
-
--- ---- Bind, BindComplete
+-- ---- Bind
 
 codes_reads : ReadsFormat (counted16_at 2 (int_at w16)) (SpellsCounted16 (SpellsInt w16))
 codes_reads = counted16_reads (int_at w16) (SpellsInt w16) 2 (λ x f h. omega (arith, h.0)) (int_reads w16)
@@ -49,11 +45,7 @@ bind ctx = is_row 66 1073741822 (lit< tt) _ SpellsBind
     (pair_reads (counted16_at 4 nullable_at) (SpellsCounted16 SpellsNullable) _ _ parameters_reads
     codes_reads))))))
 
-pub bind_complete : (ctx : DecodeContext) → IsRow 50 30000 (bind_complete_of ctx) NoBody
-unfolding bind_complete_of
-bind_complete ctx = no_body_row 50 30000 (lit< tt) (record {}) (λ n. refl)
-
--- ---- Close, CloseComplete, Describe
+-- ---- Close, Describe
 
 target_reads : ReadsLast target_at SpellsTarget
 unfolding target_at
@@ -71,11 +63,7 @@ describe ctx = is_row 68 10000 (lit< tt) _ SpellsDescribe
     (made_last (λ p. record { target_type = p.0; name = p.1 }) (λ m. (m.target_type, m.name)) target_at
     SpellsTarget (λ x. refl) (λ y. refl) target_reads)
 
-pub close_complete : (ctx : DecodeContext) → IsRow 51 30000 (close_complete_of ctx) NoBody
-unfolding close_complete_of
-close_complete ctx = no_body_row 51 30000 (lit< tt) (record {}) (λ n. refl)
-
--- ---- Execute, PortalSuspended
+-- ---- Execute
 
 pub execute : (ctx : DecodeContext) → IsRow 69 10000 (execute_of ctx) SpellsExecute
 unfolding execute_of
@@ -83,17 +71,3 @@ execute ctx = is_row 69 10000 (lit< tt) _ SpellsExecute
     (made_last (λ p. record { name = p.0; max_rows = p.1 }) (λ m. (m.name, m.max_rows)) _ _ (λ x. refl)
     (λ y. refl)
     (reads_last _ _ (pair_reads name_at SpellsName (int_at w32) (SpellsInt w32) name_reads (int_reads w32))))
-
-pub portal_suspended : (ctx : DecodeContext) → IsRow 115 30000 (portal_suspended_of ctx) NoBody
-unfolding portal_suspended_of
-portal_suspended ctx = no_body_row 115 30000 (lit< tt) (record {}) (λ n. refl)
-
--- ---- Flush, Sync
-
-pub flush : (ctx : DecodeContext) → IsRow 72 10000 (flush_of ctx) NoBody
-unfolding flush_of
-flush ctx = no_body_row 72 10000 (lit< tt) (record {}) (λ n. refl)
-
-pub sync : (ctx : DecodeContext) → IsRow 83 10000 (sync_of ctx) NoBody
-unfolding sync_of
-sync ctx = no_body_row 83 10000 (lit< tt) (record {}) (λ n. refl)

@@ -1,5 +1,5 @@
 -- The messages of the extended query (PostgreSQL 18, section 54.7, Message Formats).
-use Rattle.std.specs.Prelude.{ℕ, ℤ, Bool, List, ◌++◌, Option, Result, Ok, ◌||◌}
+use Rattle.std.specs.Prelude.{ℕ, ℤ, Bool, List, ◌++◌, Option, Result, ◌||◌}
 use Rattle.std.specs.Int.{w8, w16, w32}
 use Rattle.pgw_types.specs.declared.error.PgWireError.{PgWireError}
 use Rattle.pgw_types.specs.declared.context.DecodeContext.{DecodeContext}
@@ -10,18 +10,12 @@ use Rattle.pgw_wire.specs.Counted.{counted16_at, SpellsCounted16, counted16, is_
 use Rattle.pgw_ext.specs.Kinds.{name, is_name_refused}
 use Rattle.pgw_wire.specs.Values.{nullable_at, SpellsNullable, nullable}
 use Rattle.pgw_ext.specs.declared.parse.Parse.{Parse}
-use Rattle.pgw_ext.specs.declared.parse.ParseComplete.{ParseComplete}
 use Rattle.pgw_ext.specs.declared.bind.Bind.{Bind}
-use Rattle.pgw_ext.specs.declared.bind.BindComplete.{BindComplete}
 use Rattle.pgw_ext.specs.declared.target.Close.{Close}
-use Rattle.pgw_ext.specs.declared.target.CloseComplete.{CloseComplete}
 use Rattle.pgw_ext.specs.declared.target.Describe.{Describe}
 use Rattle.pgw_ext.specs.declared.execute.Execute.{Execute}
-use Rattle.pgw_ext.specs.declared.execute.PortalSuspended.{PortalSuspended}
-use Rattle.pgw_ext.specs.declared.flush.Flush.{Flush}
-use Rattle.pgw_ext.specs.declared.flush.Sync.{Sync}
 
--- ---- Parse, ParseComplete
+-- ---- Parse
 
 abbrev pub parse_from : Option (List ℕ) × (List ℕ × List ℕ) → Parse
 parse_from p = record { name = p.0; query = p.1.0; type_oids = p.1.1 }
@@ -42,10 +36,7 @@ parse m = name m.name ++ text m.query ++ counted16 u32 m.type_oids
 abbrev pub is_parse_refused : Parse → Bool
 is_parse_refused m = is_name_refused m.name || (has_zero m.query || is_too_long m.type_oids)
 
-unfoldable pub parse_complete_of : DecodeContext → List ℕ → Result ParseComplete PgWireError
-parse_complete_of ctx bytes = all_of (Ok (record {}, bytes))
-
--- ---- Bind, BindComplete
+-- ---- Bind
 
 -- a bind's parts, in order
 abbrev pub BindParts : Type 0
@@ -95,10 +86,7 @@ is_bind_refused m =
     (is_too_long m.parameter_format_codes ||
     (is_too_long m.parameters || is_too_long m.result_column_format_codes))
 
-unfoldable pub bind_complete_of : DecodeContext → List ℕ → Result BindComplete PgWireError
-bind_complete_of ctx bytes = all_of (Ok (record {}, bytes))
-
--- ---- Close, CloseComplete, Describe
+-- ---- Close, Describe
 
 -- what is meant: a byte for its kind, and its name
 unfoldable pub target_at : List ℕ → Result ((ℕ × Option (List ℕ)) × List ℕ) PgWireError
@@ -114,9 +102,6 @@ close_of ctx bytes =
 abbrev pub SpellsClose : Close → List ℕ → Type 0
 SpellsClose m = SpellsTarget (m.target_type, m.name)
 
-unfoldable pub close_complete_of : DecodeContext → List ℕ → Result CloseComplete PgWireError
-close_complete_of ctx bytes = all_of (Ok (record {}, bytes))
-
 unfoldable pub describe_of : DecodeContext → List ℕ → Result Describe PgWireError
 describe_of ctx bytes =
     all_of (made_at (λ p. record { target_type = p.0; name = p.1 }) target_at bytes)
@@ -124,7 +109,7 @@ describe_of ctx bytes =
 abbrev pub SpellsDescribe : Describe → List ℕ → Type 0
 SpellsDescribe m = SpellsTarget (m.target_type, m.name)
 
--- ---- Execute, PortalSuspended
+-- ---- Execute
 
 unfoldable pub execute_of : DecodeContext → List ℕ → Result Execute PgWireError
 execute_of ctx bytes =
@@ -133,14 +118,3 @@ execute_of ctx bytes =
 
 abbrev pub SpellsExecute : Execute → List ℕ → Type 0
 SpellsExecute m = Pair SpellsName (SpellsInt w32) (m.name, m.max_rows)
-
-unfoldable pub portal_suspended_of : DecodeContext → List ℕ → Result PortalSuspended PgWireError
-portal_suspended_of ctx bytes = all_of (Ok (record {}, bytes))
-
--- ---- Flush, Sync
-
-unfoldable pub flush_of : DecodeContext → List ℕ → Result Flush PgWireError
-flush_of ctx bytes = all_of (Ok (record {}, bytes))
-
-unfoldable pub sync_of : DecodeContext → List ℕ → Result Sync PgWireError
-sync_of ctx bytes = all_of (Ok (record {}, bytes))

@@ -1,5 +1,5 @@
 //! Binding parameters to a prepared statement.
-ghost use Rattle.std.specs.Prelude.{◌≡◌, ◌||◌, [], None, IfOk};
+ghost use Rattle.std.specs.Prelude.{◌≡◌, ◌||◌, IfOk};
 ghost use Rattle.pgw_wire.specs.declared.framing.Framing.TheVariants.{Typed};
 ghost use Rattle.std.specs.Int.{w16};
 ghost use Rattle.pgw_wire.specs.Reading.{Reads, int_at};
@@ -7,9 +7,9 @@ ghost use Rattle.pgw_wire.specs.Formats.{pair_at};
 ghost use Rattle.pgw_wire.specs.Writing.{refused_if};
 ghost use Rattle.pgw_wire.specs.Values.{nullable_at};
 ghost use Rattle.pgw_ext.specs.Kinds.{is_name_refused as is_name_refused_list};
-ghost use Rattle.pgw_ext.specs.Rows.{bind_of, bind, is_bind_refused, bind_complete_of};
+ghost use Rattle.pgw_ext.specs.Rows.{bind_of, bind, is_bind_refused};
 ghost use Rattle.pgw_wire.specs.Counted.{is_too_long, counted16_at};
-ghost use Rattle.pgw_wire.specs.declared.limits.TheConstants.{LARGE_LIMIT, SMALL_BACKEND_LIMIT};
+ghost use Rattle.pgw_wire.specs.declared.limits.TheConstants.{LARGE_LIMIT};
 
 use crate::kinds::{is_name_refused, name_len, put_name};
 use pgw_types::context::DecodeContext;
@@ -19,9 +19,10 @@ use pgw_types::memory::OutOfMemory;
 use pgw_types::octets::Octets;
 use pgw_types::text::Text;
 use pgw_wire::counted::{put_counted16, take_counted16};
+use pgw_wire::empty::EmptyResponse;
 use pgw_wire::field::list_len;
 use pgw_wire::framing::Framing;
-use pgw_wire::limits::{LARGE_LIMIT, SMALL_BACKEND_LIMIT};
+use pgw_wire::limits::LARGE_LIMIT;
 use pgw_wire::message::Message;
 use pgw_wire::reader::FieldReader;
 use pgw_wire::writer::{Writer, refused_if};
@@ -166,64 +167,7 @@ impl Message for Bind {
 }
 
 /// The values are bound (BindComplete).
-#[derive(Clone, Copy, Debug, PartialEq, Eq)]
-pub struct BindComplete;
-
-impl BindComplete {
-    pub fn new() -> BindComplete
-        ensures { result ≡ record {} }
-    {
-        BindComplete
-    }
-}
-
-impl Message for BindComplete {
-    ghost row_framing = { Typed 50 };
-
-    ghost limit = { SMALL_BACKEND_LIMIT };
-
-    ghost reading = { bind_complete_of };
-
-    ghost written = { λ m. [] };
-
-    ghost fault = { λ m. None };
-
-    fn framing() -> Framing {
-        Framing::Typed(MESSAGE_TYPE_BYTE_BIND_COMPLETE)
-    }
-
-    fn max_message_length() -> usize {
-        SMALL_BACKEND_LIMIT
-    }
-
-    fn message_length(&self) -> usize {
-        4
-    }
-
-    fn refusal(&self) -> Option<PgWireError> {
-        None
-    }
-
-    fn put_body(&self, _out: &mut Writer) -> Result<(), OutOfMemory> {
-        Ok(())
-    }
-
-    #[tactic(auto, unfolding(crate::specs::Rows::bind_complete_of))]
-    fn decode_body(
-        _alloc: Global,
-        body: &Octets,
-        _ctx: &DecodeContext,
-    ) -> PgWireResult<BindComplete> {
-        FieldReader::new(body).finish()?;
-        Ok(BindComplete)
-    }
-}
-
-impl Duplicate for BindComplete {
-    fn duplicate(&self) -> Result<BindComplete, OutOfMemory> {
-        Ok(BindComplete)
-    }
-}
+pub type BindComplete = EmptyResponse<MESSAGE_TYPE_BYTE_BIND_COMPLETE>;
 
 // Copies of the values between the formats of both sides.
 fn copied_values(

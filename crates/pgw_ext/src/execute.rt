@@ -1,10 +1,10 @@
 //! Running a portal.
-ghost use Rattle.std.specs.Prelude.{◌≡◌, ◌++◌, [], None};
+ghost use Rattle.std.specs.Prelude.{◌≡◌, ◌++◌};
 ghost use Rattle.pgw_wire.specs.declared.framing.Framing.TheVariants.{Typed};
 ghost use Rattle.pgw_wire.specs.Writing.{i32 as i32_bytes, refused_if};
 ghost use Rattle.pgw_ext.specs.Kinds.{name as name_bytes, is_name_refused as is_name_refused_list};
-ghost use Rattle.pgw_ext.specs.Rows.{execute_of, portal_suspended_of};
-ghost use Rattle.pgw_wire.specs.declared.limits.TheConstants.{SMALL_BACKEND_LIMIT, SMALL_LIMIT};
+ghost use Rattle.pgw_ext.specs.Rows.{execute_of};
+ghost use Rattle.pgw_wire.specs.declared.limits.TheConstants.{SMALL_LIMIT};
 
 use crate::kinds::{is_name_refused, name_len, put_name};
 use pgw_types::context::DecodeContext;
@@ -13,8 +13,9 @@ use pgw_types::listed::Duplicate;
 use pgw_types::memory::OutOfMemory;
 use pgw_types::octets::Octets;
 use pgw_types::text::Text;
+use pgw_wire::empty::EmptyResponse;
 use pgw_wire::framing::Framing;
-use pgw_wire::limits::{SMALL_BACKEND_LIMIT, SMALL_LIMIT};
+use pgw_wire::limits::SMALL_LIMIT;
 use pgw_wire::message::Message;
 use pgw_wire::reader::FieldReader;
 use pgw_wire::writer::{Writer, put_i32, refused_if};
@@ -92,61 +93,4 @@ impl Duplicate for Execute {
 }
 
 /// The portal has more rows than were asked for (PortalSuspended).
-#[derive(Clone, Copy, Debug, PartialEq, Eq)]
-pub struct PortalSuspended;
-
-impl PortalSuspended {
-    pub fn new() -> PortalSuspended
-        ensures { result ≡ record {} }
-    {
-        PortalSuspended
-    }
-}
-
-impl Message for PortalSuspended {
-    ghost row_framing = { Typed 115 };
-
-    ghost limit = { SMALL_BACKEND_LIMIT };
-
-    ghost reading = { portal_suspended_of };
-
-    ghost written = { λ m. [] };
-
-    ghost fault = { λ m. None };
-
-    fn framing() -> Framing {
-        Framing::Typed(MESSAGE_TYPE_BYTE_PORTAL_SUSPENDED)
-    }
-
-    fn max_message_length() -> usize {
-        SMALL_BACKEND_LIMIT
-    }
-
-    fn message_length(&self) -> usize {
-        4
-    }
-
-    fn refusal(&self) -> Option<PgWireError> {
-        None
-    }
-
-    fn put_body(&self, _out: &mut Writer) -> Result<(), OutOfMemory> {
-        Ok(())
-    }
-
-    #[tactic(auto, unfolding(crate::specs::Rows::portal_suspended_of))]
-    fn decode_body(
-        _alloc: Global,
-        body: &Octets,
-        _ctx: &DecodeContext,
-    ) -> PgWireResult<PortalSuspended> {
-        FieldReader::new(body).finish()?;
-        Ok(PortalSuspended)
-    }
-}
-
-impl Duplicate for PortalSuspended {
-    fn duplicate(&self) -> Result<PortalSuspended, OutOfMemory> {
-        Ok(PortalSuspended)
-    }
-}
+pub type PortalSuspended = EmptyResponse<MESSAGE_TYPE_BYTE_PORTAL_SUSPENDED>;

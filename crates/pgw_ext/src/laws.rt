@@ -3,7 +3,7 @@ ghost use Rattle.std.specs.Prelude.{◌≡◌, ◌∷◌, ◌++◌, ℕ, List, O
 ghost use Rattle.pgw_wire.specs.declared.framing.Framing.TheVariants.{Typed};
 ghost use Rattle.pgw_wire.specs.Framing.{encoded};
 ghost use Rattle.pgw_wire.specs.Writing.{i32, refused_if};
-ghost use Rattle.pgw_wire.specs.Formats.{IsRow, SpellsTyped, NoBody};
+ghost use Rattle.pgw_wire.specs.Formats.{IsRow, SpellsTyped};
 ghost use Rattle.pgw_types.specs.declared.context.DecodeContext.{DecodeContext as TheContext};
 ghost use Rattle.pgw_ext.specs.declared.parse.Parse.{Parse as TheParse};
 ghost use Rattle.pgw_ext.specs.declared.bind.Bind.{Bind as TheBind};
@@ -12,26 +12,16 @@ ghost use Rattle.pgw_ext.specs.declared.target.Describe.{Describe as TheDescribe
 ghost use Rattle.pgw_ext.specs.declared.execute.Execute.{Execute as TheExecute};
 ghost use Rattle.pgw_ext.specs.Kinds.{name, is_name_refused};
 ghost use Rattle.pgw_ext.specs.Sound.{IsParse, IsBind, IsClose, IsDescribe, IsExecute};
-ghost use Rattle.pgw_ext.specs.Rows.{parse, is_parse_refused, bind, is_bind_refused, parse_of, parse_complete_of, bind_of, bind_complete_of, close_of, close_complete_of, describe_of, execute_of, portal_suspended_of, flush_of, sync_of, SpellsParse, SpellsBind, SpellsClose, SpellsDescribe, SpellsExecute};
-ghost use Rattle.pgw_wire.specs.declared.limits.TheConstants.{LARGE_LIMIT, SMALL_BACKEND_LIMIT, SMALL_LIMIT};
+ghost use Rattle.pgw_ext.specs.Rows.{parse, is_parse_refused, bind, is_bind_refused, parse_of, bind_of, close_of, describe_of, execute_of, SpellsParse, SpellsBind, SpellsClose, SpellsDescribe, SpellsExecute};
+ghost use Rattle.pgw_wire.specs.declared.limits.TheConstants.{LARGE_LIMIT, SMALL_LIMIT};
 
 /// What is read at the front of some bytes is spelled so, and what is spelled so is read, whatever follows it.
 pub fn rows_are_exact()
     ensures parse { (ctx : TheContext) → IsRow 80 LARGE_LIMIT (parse_of ctx) SpellsParse }
-    ensures parse_complete { (ctx : TheContext) →
-        IsRow 49 SMALL_BACKEND_LIMIT (parse_complete_of ctx) NoBody }
     ensures bind { (ctx : TheContext) → IsRow 66 LARGE_LIMIT (bind_of ctx) SpellsBind }
-    ensures bind_complete { (ctx : TheContext) →
-        IsRow 50 SMALL_BACKEND_LIMIT (bind_complete_of ctx) NoBody }
     ensures close { (ctx : TheContext) → IsRow 67 SMALL_LIMIT (close_of ctx) SpellsClose }
-    ensures close_complete { (ctx : TheContext) →
-        IsRow 51 SMALL_BACKEND_LIMIT (close_complete_of ctx) NoBody }
     ensures describe { (ctx : TheContext) → IsRow 68 SMALL_LIMIT (describe_of ctx) SpellsDescribe }
     ensures execute { (ctx : TheContext) → IsRow 69 SMALL_LIMIT (execute_of ctx) SpellsExecute }
-    ensures portal_suspended { (ctx : TheContext) →
-        IsRow 115 SMALL_BACKEND_LIMIT (portal_suspended_of ctx) NoBody }
-    ensures flush { (ctx : TheContext) → IsRow 72 SMALL_LIMIT (flush_of ctx) NoBody }
-    ensures sync { (ctx : TheContext) → IsRow 83 SMALL_LIMIT (sync_of ctx) NoBody }
 {}
 
 /// What is written of a message spells it. The others have no body.

@@ -1,9 +1,9 @@
 //! Making a prepared statement.
-ghost use Rattle.std.specs.Prelude.{◌≡◌, [], None};
+ghost use Rattle.std.specs.Prelude.{◌≡◌};
 ghost use Rattle.pgw_wire.specs.declared.framing.Framing.TheVariants.{Typed};
 ghost use Rattle.pgw_wire.specs.Writing.{refused_if};
-ghost use Rattle.pgw_ext.specs.Rows.{parse_of, parse, is_parse_refused, parse_complete_of};
-ghost use Rattle.pgw_wire.specs.declared.limits.TheConstants.{LARGE_LIMIT, SMALL_BACKEND_LIMIT};
+ghost use Rattle.pgw_ext.specs.Rows.{parse_of, parse, is_parse_refused};
+ghost use Rattle.pgw_wire.specs.declared.limits.TheConstants.{LARGE_LIMIT};
 
 use crate::kinds::{is_name_refused, name_len, put_name};
 use pgw_types::context::DecodeContext;
@@ -13,9 +13,10 @@ use pgw_types::memory::OutOfMemory;
 use pgw_types::octets::Octets;
 use pgw_types::text::Text;
 use pgw_wire::counted::{put_counted16, take_counted16};
+use pgw_wire::empty::EmptyResponse;
 use pgw_wire::field::list_len;
 use pgw_wire::framing::Framing;
-use pgw_wire::limits::{LARGE_LIMIT, SMALL_BACKEND_LIMIT};
+use pgw_wire::limits::LARGE_LIMIT;
 use pgw_wire::message::Message;
 use pgw_wire::reader::FieldReader;
 use pgw_wire::writer::{Writer, has_zero, put_text, refused_if};
@@ -105,64 +106,7 @@ impl Message for Parse {
 }
 
 /// The statement is prepared (ParseComplete).
-#[derive(Clone, Copy, Debug, PartialEq, Eq)]
-pub struct ParseComplete;
-
-impl ParseComplete {
-    pub fn new() -> ParseComplete
-        ensures { result ≡ record {} }
-    {
-        ParseComplete
-    }
-}
-
-impl Message for ParseComplete {
-    ghost row_framing = { Typed 49 };
-
-    ghost limit = { SMALL_BACKEND_LIMIT };
-
-    ghost reading = { parse_complete_of };
-
-    ghost written = { λ m. [] };
-
-    ghost fault = { λ m. None };
-
-    fn framing() -> Framing {
-        Framing::Typed(MESSAGE_TYPE_BYTE_PARSE_COMPLETE)
-    }
-
-    fn max_message_length() -> usize {
-        SMALL_BACKEND_LIMIT
-    }
-
-    fn message_length(&self) -> usize {
-        4
-    }
-
-    fn refusal(&self) -> Option<PgWireError> {
-        None
-    }
-
-    fn put_body(&self, _out: &mut Writer) -> Result<(), OutOfMemory> {
-        Ok(())
-    }
-
-    #[tactic(auto, unfolding(crate::specs::Rows::parse_complete_of))]
-    fn decode_body(
-        _alloc: Global,
-        body: &Octets,
-        _ctx: &DecodeContext,
-    ) -> PgWireResult<ParseComplete> {
-        FieldReader::new(body).finish()?;
-        Ok(ParseComplete)
-    }
-}
-
-impl Duplicate for ParseComplete {
-    fn duplicate(&self) -> Result<ParseComplete, OutOfMemory> {
-        Ok(ParseComplete)
-    }
-}
+pub type ParseComplete = EmptyResponse<MESSAGE_TYPE_BYTE_PARSE_COMPLETE>;
 
 impl Duplicate for Parse {
     fn duplicate(&self) -> Result<Parse, OutOfMemory> {

@@ -1,11 +1,11 @@
 //! Closing and describing statements and portals.
-ghost use Rattle.std.specs.Prelude.{◌≡◌, ◌++◌, ◌∷◌, [], None, OnOk};
+ghost use Rattle.std.specs.Prelude.{◌≡◌, ◌++◌, ◌∷◌, OnOk};
 ghost use Rattle.pgw_wire.specs.declared.framing.Framing.TheVariants.{Typed};
 ghost use Rattle.pgw_wire.specs.Reading.{Reads};
 ghost use Rattle.pgw_wire.specs.Writing.{refused_if};
 ghost use Rattle.pgw_ext.specs.Kinds.{name as name_bytes, is_name_refused as is_name_refused_list};
-ghost use Rattle.pgw_ext.specs.Rows.{target_at, close_of, close_complete_of, describe_of};
-ghost use Rattle.pgw_wire.specs.declared.limits.TheConstants.{SMALL_BACKEND_LIMIT, SMALL_LIMIT};
+ghost use Rattle.pgw_ext.specs.Rows.{target_at, close_of, describe_of};
+ghost use Rattle.pgw_wire.specs.declared.limits.TheConstants.{SMALL_LIMIT};
 
 use crate::kinds::{is_name_refused, name_len, put_name};
 use pgw_types::context::DecodeContext;
@@ -14,8 +14,9 @@ use pgw_types::listed::Duplicate;
 use pgw_types::memory::OutOfMemory;
 use pgw_types::octets::Octets;
 use pgw_types::text::Text;
+use pgw_wire::empty::EmptyResponse;
 use pgw_wire::framing::Framing;
-use pgw_wire::limits::{SMALL_BACKEND_LIMIT, SMALL_LIMIT};
+use pgw_wire::limits::SMALL_LIMIT;
 use pgw_wire::message::Message;
 use pgw_wire::reader::FieldReader;
 use pgw_wire::writer::{Writer, put_u8, refused_if};
@@ -114,64 +115,7 @@ impl Duplicate for Close {
 }
 
 /// The statement or the portal is closed (CloseComplete).
-#[derive(Clone, Copy, Debug, PartialEq, Eq)]
-pub struct CloseComplete;
-
-impl CloseComplete {
-    pub fn new() -> CloseComplete
-        ensures { result ≡ record {} }
-    {
-        CloseComplete
-    }
-}
-
-impl Message for CloseComplete {
-    ghost row_framing = { Typed 51 };
-
-    ghost limit = { SMALL_BACKEND_LIMIT };
-
-    ghost reading = { close_complete_of };
-
-    ghost written = { λ m. [] };
-
-    ghost fault = { λ m. None };
-
-    fn framing() -> Framing {
-        Framing::Typed(MESSAGE_TYPE_BYTE_CLOSE_COMPLETE)
-    }
-
-    fn max_message_length() -> usize {
-        SMALL_BACKEND_LIMIT
-    }
-
-    fn message_length(&self) -> usize {
-        4
-    }
-
-    fn refusal(&self) -> Option<PgWireError> {
-        None
-    }
-
-    fn put_body(&self, _out: &mut Writer) -> Result<(), OutOfMemory> {
-        Ok(())
-    }
-
-    #[tactic(auto, unfolding(crate::specs::Rows::close_complete_of))]
-    fn decode_body(
-        _alloc: Global,
-        body: &Octets,
-        _ctx: &DecodeContext,
-    ) -> PgWireResult<CloseComplete> {
-        FieldReader::new(body).finish()?;
-        Ok(CloseComplete)
-    }
-}
-
-impl Duplicate for CloseComplete {
-    fn duplicate(&self) -> Result<CloseComplete, OutOfMemory> {
-        Ok(CloseComplete)
-    }
-}
+pub type CloseComplete = EmptyResponse<MESSAGE_TYPE_BYTE_CLOSE_COMPLETE>;
 
 /// A statement or a portal to be described (Describe).
 #[derive(Debug, Drop, PartialEq, Eq)]

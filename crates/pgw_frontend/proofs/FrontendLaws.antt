@@ -12,10 +12,9 @@ use Rattle.pgw_startup.specs.Startup.{startup_of, SpellsStartup}
 use Rattle.pgw_wire.specs.Formats.{SpellsUntyped, IsRow, SpellsTyped, SpellsNat, NoBody}
 use Rattle.pgw_startup.specs.Password.{family_of, SpellsRaw}
 use Rattle.pgw_control.specs.Openings.{has_code, ssl_request_of, gss_enc_request_of, cancel_request_of, SpellsCancelRequest, SpellsCoded}
-use Rattle.pgw_control.specs.Terminate.{terminate_of}
 use Rattle.pgw_query.specs.Rows.{query_of, SpellsQuery}
-use Rattle.pgw_ext.specs.Rows.{parse_of, bind_of, close_of, describe_of, execute_of, flush_of, sync_of, SpellsParse, SpellsBind, SpellsClose, SpellsDescribe, SpellsExecute}
-use Rattle.pgw_copy.specs.Rows.{copy_data_of, copy_done_of, copy_fail_of, SpellsCopyData, SpellsCopyDone, SpellsCopyFail}
+use Rattle.pgw_ext.specs.Rows.{parse_of, bind_of, close_of, describe_of, execute_of, SpellsParse, SpellsBind, SpellsClose, SpellsDescribe, SpellsExecute}
+use Rattle.pgw_copy.specs.Rows.{copy_data_of, copy_fail_of, SpellsCopyData, SpellsCopyFail}
 use Rattle.pgw_frontend.specs.declared.frontend.SslNegotiationMetaMessage.TheVariants as negotiation
 use Rattle.pgw_frontend.specs.declared.frontend.PgWireFrontendMessage.{PgWireFrontendMessage}
 use Rattle.pgw_frontend.specs.declared.frontend.PgWireFrontendMessage.TheVariants as frontend
@@ -24,12 +23,14 @@ use Rattle.pgw_control.specs.declared.cancel.CancelRequest.{CancelRequest}
 use Rattle.pgw_wire.specs.Framing.{wire_front, Decodes, as_one_of}
 use Rattle.pgw_wire.proofs.Laws.{bind_ok, chosen}
 use Rattle.pgw_wire.proofs.MessageLaws.{some_is, made_of}
+use Rattle.pgw_wire.specs.Empty.{empty_request_of}
+use Rattle.pgw_wire.proofs.EmptyLaws.{empty_request}
 use Rattle.pgw_startup.proofs.FirstLaws.{startup_found, startup_again}
 use Rattle.pgw_startup.proofs.ClientLaws.{raw}
-use Rattle.pgw_control.proofs.OpeningLaws.{ssl_found, ssl_again, gss_found, gss_again, cancel_found, cancel_again, stands, coded_has, cancel_has, terminate}
+use Rattle.pgw_control.proofs.OpeningLaws.{ssl_found, ssl_again, gss_found, gss_again, cancel_found, cancel_again, stands, coded_has, cancel_has}
 use Rattle.pgw_query.proofs.RowLaws.{query}
-use Rattle.pgw_ext.proofs.RowLaws.{parse, bind, close, describe, execute, flush, sync}
-use Rattle.pgw_copy.proofs.RowLaws.{copy_data, copy_done, copy_fail}
+use Rattle.pgw_ext.proofs.RowLaws.{parse, bind, close, describe, execute}
+use Rattle.pgw_copy.proofs.RowLaws.{copy_data, copy_fail}
 use Rattle.pgw_frontend.specs.Frontend.{negotiation_front, first_front, frontend_by, typed_front, frontend_front}
 use Rattle.pgw_frontend.specs.FrontendSpells.{SpellsFrontend, AwaitsFirst, AwaitsTyped, AwaitsFrontend, HasTypeByte}
 
@@ -94,16 +95,18 @@ module _ (ctx : DecodeContext) (m : PgWireFrontendMessage) (bytes rest : List �
                                                 SpellsExecute (execute ctx) (λ x g s. s) b first h.0 h.1
                                             | inr h ↦
                                                 elim (chosen (eqb b 72) _ _ _ h.1) [
-                                                  | inl h ↦ one_found frontend.Flush 72 10000 (flush_of ctx)
-                                                      NoBody (flush ctx) (λ x g s. s) b first h.0 h.1
+                                                  | inl h ↦ one_found frontend.Flush 72 10000 (empty_request_of 72 ctx)
+                                                      NoBody (empty_request 72 ctx) (λ x g s. s) b first h.0 h.1
                                                   | inr h ↦
                                                       elim (chosen (eqb b 83) _ _ _ h.1) [
-                                                        | inl h ↦ one_found frontend.Sync 83 10000 (sync_of ctx)
-                                                            NoBody (sync ctx) (λ x g s. s) b first h.0 h.1
+                                                        | inl h ↦ one_found frontend.Sync 83 10000
+                                                            (empty_request_of 83 ctx)
+                                                            NoBody (empty_request 83 ctx) (λ x g s. s) b first h.0 h.1
                                                         | inr h ↦
                                                             elim (chosen (eqb b 88) _ _ _ h.1) [
                                                               | inl h ↦ one_found frontend.Terminate 88 10000
-                                                                  (terminate_of ctx) NoBody (terminate ctx)
+                                                                  (empty_request_of 88 ctx) NoBody
+                                                                  (empty_request 88 ctx)
                                                                   (λ x g s. s) b first h.0 h.1
                                                               | inr h ↦
                                                                   elim (chosen (eqb b 100) _ _ _ h.1) [
@@ -114,8 +117,8 @@ module _ (ctx : DecodeContext) (m : PgWireFrontendMessage) (bytes rest : List �
                                                                     | inr h ↦
                                                                         elim (chosen (eqb b 99) _ _ _ h.1) [
                                                                           | inl h ↦ one_found frontend.CopyDone 99
-                                                                              10000 (copy_done_of ctx)
-                                                                              SpellsCopyDone (copy_done ctx)
+                                                                              10000 (empty_request_of 99 ctx)
+                                                                              NoBody (empty_request 99 ctx)
                                                                               (λ x g s. s) b first h.0 h.1
                                                                           | inr h ↦
                                                                               elim (chosen (eqb b 102) _ _ _ h.1) [
@@ -388,17 +391,20 @@ frontend_again ctx (frontend.Execute m) g rest phase h =
     one_again ctx frontend.Execute 69 10000 (execute_of ctx) SpellsExecute (execute ctx) (λ bytes. refl) phase m g
     rest h
 frontend_again ctx (frontend.Flush m) g rest phase h =
-    one_again ctx frontend.Flush 72 10000 (flush_of ctx) NoBody (flush ctx) (λ bytes. refl) phase m g rest h
+    one_again ctx frontend.Flush 72 10000 (empty_request_of 72 ctx) NoBody (empty_request 72 ctx) (λ bytes. refl)
+    phase m g rest h
 frontend_again ctx (frontend.Sync m) g rest phase h =
-    one_again ctx frontend.Sync 83 10000 (sync_of ctx) NoBody (sync ctx) (λ bytes. refl) phase m g rest h
+    one_again ctx frontend.Sync 83 10000 (empty_request_of 83 ctx) NoBody (empty_request 83 ctx) (λ bytes. refl)
+    phase m g rest h
 frontend_again ctx (frontend.Terminate m) g rest phase h =
-    one_again ctx frontend.Terminate 88 10000 (terminate_of ctx) NoBody (terminate ctx) (λ bytes. refl) phase m g
+    one_again ctx frontend.Terminate 88 10000 (empty_request_of 88 ctx) NoBody (empty_request 88 ctx)
+    (λ bytes. refl) phase m g
     rest h
 frontend_again ctx (frontend.CopyData m) g rest phase h =
     one_again ctx frontend.CopyData 100 1073741822 (copy_data_of ctx) SpellsCopyData (copy_data ctx)
     (λ bytes. refl) phase m g rest h
 frontend_again ctx (frontend.CopyDone m) g rest phase h =
-    one_again ctx frontend.CopyDone 99 10000 (copy_done_of ctx) SpellsCopyDone (copy_done ctx) (λ bytes. refl)
+    one_again ctx frontend.CopyDone 99 10000 (empty_request_of 99 ctx) NoBody (empty_request 99 ctx) (λ bytes. refl)
     phase m g rest h
 frontend_again ctx (frontend.CopyFail m) g rest phase h =
     one_again ctx frontend.CopyFail 102 10000 (copy_fail_of ctx) SpellsCopyFail (copy_fail ctx) (λ bytes. refl)

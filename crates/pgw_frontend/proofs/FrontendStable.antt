@@ -11,15 +11,15 @@ use Rattle.pgw_wire.specs.Framing.{code_in, stated_length, length_frame, frame, 
 use Rattle.pgw_wire.proofs.Laws.{bind_ok, chosen}
 use Rattle.pgw_wire.proofs.MessageLaws.{some_is, made_of, framed_found}
 use Rattle.pgw_wire.proofs.Stable.{Stable, bind_err, front_stable, stable_choice, stable_refusal}
+use Rattle.pgw_wire.specs.Empty.{empty_request_of}
 use Rattle.pgw_startup.specs.declared.startup.Startup.{Startup}
 use Rattle.pgw_startup.specs.Startup.{startup_of}
 use Rattle.pgw_startup.specs.Password.{family_of}
 use Rattle.pgw_control.specs.declared.cancel.CancelRequest.{CancelRequest}
 use Rattle.pgw_control.specs.Openings.{ssl_request_of, gss_enc_request_of, cancel_request_of}
-use Rattle.pgw_control.specs.Terminate.{terminate_of}
 use Rattle.pgw_query.specs.Rows.{query_of}
-use Rattle.pgw_ext.specs.Rows.{parse_of, bind_of, close_of, describe_of, execute_of, flush_of, sync_of}
-use Rattle.pgw_copy.specs.Rows.{copy_data_of, copy_done_of, copy_fail_of}
+use Rattle.pgw_ext.specs.Rows.{parse_of, bind_of, close_of, describe_of, execute_of}
+use Rattle.pgw_copy.specs.Rows.{copy_data_of, copy_fail_of}
 use Rattle.pgw_frontend.specs.declared.frontend.SslNegotiationMetaMessage.TheVariants as negotiation
 use Rattle.pgw_frontend.specs.declared.frontend.PgWireFrontendMessage.{PgWireFrontendMessage as Message}
 use Rattle.pgw_frontend.specs.declared.frontend.PgWireFrontendMessage.TheVariants as frontend
@@ -271,11 +271,11 @@ by_stable byte ctx =
     (stable_choice 5 (eqb byte 67) _ _ (one frontend.Close 67 10000 (close_of ctx))
     (stable_choice 5 (eqb byte 68) _ _ (one frontend.Describe 68 10000 (describe_of ctx))
     (stable_choice 5 (eqb byte 69) _ _ (one frontend.Execute 69 10000 (execute_of ctx))
-    (stable_choice 5 (eqb byte 72) _ _ (one frontend.Flush 72 10000 (flush_of ctx))
-    (stable_choice 5 (eqb byte 83) _ _ (one frontend.Sync 83 10000 (sync_of ctx))
-    (stable_choice 5 (eqb byte 88) _ _ (one frontend.Terminate 88 10000 (terminate_of ctx))
+    (stable_choice 5 (eqb byte 72) _ _ (one frontend.Flush 72 10000 (empty_request_of 72 ctx))
+    (stable_choice 5 (eqb byte 83) _ _ (one frontend.Sync 83 10000 (empty_request_of 83 ctx))
+    (stable_choice 5 (eqb byte 88) _ _ (one frontend.Terminate 88 10000 (empty_request_of 88 ctx))
     (stable_choice 5 (eqb byte 100) _ _ (one frontend.CopyData 100 1073741822 (copy_data_of ctx))
-    (stable_choice 5 (eqb byte 99) _ _ (one frontend.CopyDone 99 10000 (copy_done_of ctx))
+    (stable_choice 5 (eqb byte 99) _ _ (one frontend.CopyDone 99 10000 (empty_request_of 99 ctx))
     (stable_choice 5 (eqb byte 102) _ _ (one frontend.CopyFail 102 10000 (copy_fail_of ctx))
     (stable_refusal 5 (InvalidMessageType byte))))))))))))))
 

@@ -13,7 +13,7 @@ use Rattle.pgw_startup.specs.declared.password.PasswordMessageFamily.TheVariants
 use Rattle.pgw_control.specs.Openings.{cancel_request, SpellsCancelRequest}
 use Rattle.pgw_query.specs.Rows.{SpellsQuery}
 use Rattle.pgw_ext.specs.Rows.{SpellsParse, SpellsBind, SpellsExecute, parse, is_parse_refused, bind, is_bind_refused, SpellsTarget}
-use Rattle.pgw_copy.specs.Rows.{SpellsCopyData, SpellsCopyDone, SpellsCopyFail}
+use Rattle.pgw_copy.specs.Rows.{SpellsCopyData, SpellsCopyFail}
 use Rattle.pgw_frontend.specs.declared.frontend.SslNegotiationMetaMessage.TheVariants as negotiation
 use Rattle.pgw_frontend.specs.declared.frontend.PgWireFrontendMessage.{PgWireFrontendMessage}
 use Rattle.pgw_frontend.specs.declared.frontend.PgWireFrontendMessage.TheVariants as frontend
@@ -170,7 +170,7 @@ frontend_written v (frontend.Terminate m) g sound suits is =
 frontend_written v (frontend.CopyData m) g sound suits is =
     plain_written 100 1073741822 SpellsCopyData m None m.payload g (lit< tt) is (λ fine. refl)
 frontend_written v (frontend.CopyDone m) g sound suits is =
-    plain_written 99 10000 SpellsCopyDone m None [] g (lit< tt) is (λ fine. refl)
+    plain_written 99 10000 NoBody m None [] g (lit< tt) is (λ fine. refl)
 frontend_written v (frontend.CopyFail m) g sound suits is =
     plain_written 102 10000 SpellsCopyFail m (refused_if (has_zero m.message)) (text m.message) g (lit< tt) is
     (λ fine. text_written m.message (unrefused _ fine) sound)

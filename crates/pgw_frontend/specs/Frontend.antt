@@ -11,15 +11,15 @@ use Rattle.pgw_startup.specs.Startup.{startup_of, startup, is_startup_refused}
 use Rattle.pgw_startup.specs.declared.password.PasswordMessageFamily.{PasswordMessageFamily}
 use Rattle.pgw_startup.specs.Password.{family_of, password_body, password_fault}
 use Rattle.pgw_control.specs.Openings.{has_code, ssl_request_of, gss_enc_request_of, cancel_request_of, cancel_request}
-use Rattle.pgw_control.specs.Terminate.{terminate_of}
 use Rattle.pgw_query.specs.Rows.{query_of}
 use Rattle.pgw_ext.specs.Kinds.{name, is_name_refused}
-use Rattle.pgw_ext.specs.Rows.{parse_of, parse, is_parse_refused, bind_of, bind, is_bind_refused, close_of, describe_of, execute_of, flush_of, sync_of}
-use Rattle.pgw_copy.specs.Rows.{copy_data_of, copy_done_of, copy_fail_of}
+use Rattle.pgw_ext.specs.Rows.{parse_of, parse, is_parse_refused, bind_of, bind, is_bind_refused, close_of, describe_of, execute_of}
+use Rattle.pgw_copy.specs.Rows.{copy_data_of, copy_fail_of}
 use Rattle.pgw_frontend.specs.declared.frontend.SslNegotiationMetaMessage.TheVariants as negotiation
 use Rattle.pgw_frontend.specs.declared.frontend.PgWireFrontendMessage.{PgWireFrontendMessage}
 use Rattle.pgw_frontend.specs.declared.frontend.PgWireFrontendMessage.TheVariants as frontend
 use Rattle.pgw_wire.specs.declared.limits.TheConstants.{LARGE_LIMIT, SMALL_BACKEND_LIMIT, SMALL_LIMIT}
+use Rattle.pgw_wire.specs.Empty.{empty_request_of}
 
 -- ---- writing
 
@@ -117,15 +117,15 @@ frontend_by byte ctx bytes =
     else (if byte == 69 then as_one_of frontend.Execute
     (wire_front (Typed 69) SMALL_LIMIT (execute_of ctx) bytes)
     else (if byte == 72 then as_one_of frontend.Flush
-    (wire_front (Typed 72) SMALL_LIMIT (flush_of ctx) bytes)
+    (wire_front (Typed 72) SMALL_LIMIT (empty_request_of 72 ctx) bytes)
     else (if byte == 83 then as_one_of frontend.Sync
-    (wire_front (Typed 83) SMALL_LIMIT (sync_of ctx) bytes)
+    (wire_front (Typed 83) SMALL_LIMIT (empty_request_of 83 ctx) bytes)
     else (if byte == 88 then as_one_of frontend.Terminate
-    (wire_front (Typed 88) SMALL_LIMIT (terminate_of ctx) bytes)
+    (wire_front (Typed 88) SMALL_LIMIT (empty_request_of 88 ctx) bytes)
     else (if byte == 100 then as_one_of frontend.CopyData
     (wire_front (Typed 100) LARGE_LIMIT (copy_data_of ctx) bytes)
     else (if byte == 99 then as_one_of frontend.CopyDone
-    (wire_front (Typed 99) SMALL_LIMIT (copy_done_of ctx) bytes)
+    (wire_front (Typed 99) SMALL_LIMIT (empty_request_of 99 ctx) bytes)
     else (if byte == 102 then as_one_of frontend.CopyFail
     (wire_front (Typed 102) SMALL_LIMIT (copy_fail_of ctx) bytes)
     else Err (InvalidMessageType byte)))))))))))))

@@ -11,7 +11,7 @@ use Rattle.pgw_startup.specs.declared.password.PasswordMessageFamily.TheVariants
 use Rattle.pgw_control.specs.Openings.{SpellsCoded, SpellsCancelRequest}
 use Rattle.pgw_query.specs.Rows.{SpellsQuery}
 use Rattle.pgw_ext.specs.Rows.{SpellsParse, SpellsBind, SpellsClose, SpellsDescribe, SpellsExecute}
-use Rattle.pgw_copy.specs.Rows.{SpellsCopyData, SpellsCopyDone, SpellsCopyFail}
+use Rattle.pgw_copy.specs.Rows.{SpellsCopyData, SpellsCopyFail}
 use Rattle.pgw_frontend.specs.declared.frontend.SslNegotiationMetaMessage.TheVariants as negotiation
 use Rattle.pgw_frontend.specs.declared.frontend.PgWireFrontendMessage.{PgWireFrontendMessage}
 use Rattle.pgw_frontend.specs.declared.frontend.PgWireFrontendMessage.TheVariants as frontend
@@ -40,7 +40,7 @@ SpellsFrontend version (frontend.Flush m) = SpellsTyped 72 SMALL_LIMIT NoBody m
 SpellsFrontend version (frontend.Sync m) = SpellsTyped 83 SMALL_LIMIT NoBody m
 SpellsFrontend version (frontend.Terminate m) = SpellsTyped 88 SMALL_LIMIT NoBody m
 SpellsFrontend version (frontend.CopyData m) = SpellsTyped 100 LARGE_LIMIT SpellsCopyData m
-SpellsFrontend version (frontend.CopyDone m) = SpellsTyped 99 SMALL_LIMIT SpellsCopyDone m
+SpellsFrontend version (frontend.CopyDone m) = SpellsTyped 99 SMALL_LIMIT NoBody m
 SpellsFrontend version (frontend.CopyFail m) = SpellsTyped 102 SMALL_LIMIT SpellsCopyFail m
 
 -- whether the context awaits a first message, or one with a type byte

@@ -10,7 +10,7 @@ use Rattle.pgw_query.specs.declared.data.DataRow.{DataRow}
 use Rattle.pgw_query.specs.Runs.{SpellsRows}
 use Rattle.pgw_query.specs.declared.description.ParameterDescription.{ParameterDescription}
 use Rattle.pgw_query.specs.declared.response.CommandComplete.{CommandComplete}
-use Rattle.pgw_query.specs.declared.response.NoticeResponse.{NoticeResponse}
+use Rattle.pgw_query.specs.Rows.{NoticeResponse}
 use Rattle.pgw_query.specs.declared.notification.NotificationResponse.{NotificationResponse}
 use Rattle.pgw_query.specs.declared.pg_type.PgType.{PgType}
 use Rattle.pgw_query.specs.declared.field_info.FieldInfo.{FieldInfo}

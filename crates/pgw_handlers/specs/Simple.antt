@@ -5,8 +5,7 @@ use Rattle.pgw_query.specs.declared.data.RowDescription.{RowDescription}
 use Rattle.pgw_query.specs.declared.data.DataRow.{DataRow}
 use Rattle.pgw_query.specs.Runs.{SpellsRows}
 use Rattle.pgw_query.specs.declared.response.CommandComplete.{CommandComplete}
-use Rattle.pgw_query.specs.declared.response.EmptyQueryResponse.{EmptyQueryResponse}
-use Rattle.pgw_query.specs.declared.response.NoticeResponse.{NoticeResponse}
+use Rattle.pgw_query.specs.Rows.{NoticeResponse, EmptyQueryResponse}
 use Rattle.pgw_query.specs.declared.response.ReadyForQuery.{ReadyForQuery}
 use Rattle.pgw_query.specs.declared.notification.NotificationResponse.{NotificationResponse}
 use Rattle.pgw_backend.specs.declared.backend.PgWireBackendMessage.{PgWireBackendMessage as Backend}

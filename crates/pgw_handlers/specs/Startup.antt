@@ -6,7 +6,7 @@ use Rattle.pgw_startup.specs.declared.negotiate.NegotiateProtocolVersion.{Negoti
 use Rattle.pgw_startup.specs.declared.parameter_status.ParameterStatus.{ParameterStatus}
 use Rattle.pgw_startup.specs.declared.backend_key_data.BackendKeyData.{BackendKeyData}
 use Rattle.pgw_startup.specs.Negotiate.{negotiated_version}
-use Rattle.pgw_query.specs.declared.response.NoticeResponse.{NoticeResponse}
+use Rattle.pgw_query.specs.Rows.{NoticeResponse}
 use Rattle.pgw_query.specs.declared.response.ReadyForQuery.{ReadyForQuery}
 use Rattle.pgw_query.specs.declared.notification.NotificationResponse.{NotificationResponse}
 use Rattle.pgw_backend.specs.declared.backend.PgWireBackendMessage.{PgWireBackendMessage as Backend}

@@ -1,7 +1,7 @@
 //! What a client asks simple queries by.
 ghost use Rattle.std.specs.Prelude.{◌≡◌, List, IfOk, OnErr};
 ghost use Rattle.pgw_startup.specs.declared.parameter_status.ParameterStatus.{ParameterStatus as TheStatus};
-ghost use Rattle.pgw_query.specs.declared.response.NoticeResponse.{NoticeResponse as TheNotice};
+ghost use Rattle.pgw_query.specs.Rows.{NoticeResponse as TheNotice};
 ghost use Rattle.pgw_query.specs.declared.notification.NotificationResponse.{NotificationResponse as TheNotification};
 ghost use Rattle.pgw_handlers.specs.Handling.{HandlerView, standing, CallAnswer, pending, ready_answer, EndsAtReady, KeepsParameter, HandlerStays, HandlerMisplaces, Leaves};
 ghost use Rattle.pgw_handlers.specs.Simple.{SimpleCall, simple_query, on_row_description, on_data_row, on_command_complete, on_empty_query, on_parameter_status, on_notice, on_notification, on_ready_for_query, HeardInQuery, TakesSimpleRows};

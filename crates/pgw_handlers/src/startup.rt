@@ -2,7 +2,7 @@
 ghost use Rattle.std.specs.Prelude.{◌≡◌, Bool, IfOk};
 ghost use Rattle.pgw_startup.specs.declared.negotiate.NegotiateProtocolVersion.{NegotiateProtocolVersion as TheOffer};
 ghost use Rattle.pgw_startup.specs.declared.parameter_status.ParameterStatus.{ParameterStatus as TheStatus};
-ghost use Rattle.pgw_query.specs.declared.response.NoticeResponse.{NoticeResponse as TheNotice};
+ghost use Rattle.pgw_query.specs.Rows.{NoticeResponse as TheNotice};
 ghost use Rattle.pgw_query.specs.declared.notification.NotificationResponse.{NotificationResponse as TheNotification};
 ghost use Rattle.pgw_handlers.specs.declared.client_info.ServerInformation.{ServerInformation as TheInformation};
 ghost use Rattle.pgw_handlers.specs.Handling.{HandlerView, standing, CallAnswer, pending, ready_answer, EndsAtReady, KeepsParameter, HandlerStays, HandlerMisplaces, Leaves};

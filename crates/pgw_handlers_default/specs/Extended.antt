@@ -1,6 +1,6 @@
 -- What the default handler of extended queries means: it sends each message as it is, and gives what a message tells.
 use Rattle.std.specs.Prelude.{◌≡◌, refl, map, Option, Some, None, Ok, Err}
-use Rattle.pgw_query.specs.declared.response.NoticeResponse.{NoticeResponse}
+use Rattle.pgw_query.specs.Rows.{NoticeResponse}
 use Rattle.pgw_query.specs.declared.notification.NotificationResponse.{NotificationResponse}
 use Rattle.pgw_query.specs.declared.data.DataRow.{DataRow}
 use Rattle.pgw_query.specs.declared.tag.Tag.{Tag}

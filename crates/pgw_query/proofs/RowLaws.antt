@@ -4,17 +4,17 @@ use Rattle.std.specs.Int.{w8, w16, w32}
 use Rattle.std.proofs.lemmas.Bool.{eqb-true}
 use Rattle.pgw_types.specs.declared.context.DecodeContext.{DecodeContext}
 use Rattle.pgw_wire.specs.Reading.{text_at, nat_at, int_at, rest_at, marked_list_at}
-use Rattle.pgw_wire.specs.Formats.{tried_at, counted_at, NoBody, IsRow, ReadsFormat, ReadsLast, SpellsText, SpellsNat, SpellsInt, IsRest, SpellsCounted, SpellsMarked}
+use Rattle.pgw_wire.specs.Formats.{tried_at, counted_at, IsRow, ReadsFormat, ReadsLast, SpellsText, SpellsNat, SpellsInt, IsRest, SpellsCounted, SpellsMarked}
 use Rattle.pgw_wire.proofs.Laws.{pair_reads, made_reads, tried_reads, ok_is, chosen}
 use Rattle.pgw_wire.proofs.FieldLaws.{text_reads, nat_reads, int_reads}
 use Rattle.pgw_wire.proofs.FrameLaws.{reads_last, rest_reads, pair_last, made_last, counted_reads, count16}
-use Rattle.pgw_wire.proofs.MessageLaws.{is_row, no_body_row}
+use Rattle.pgw_wire.proofs.MessageLaws.{is_row}
 use Rattle.pgw_wire.proofs.CountedLaws.{counted16_reads}
 use Rattle.pgw_wire.specs.Counted.{counted16_at, SpellsCounted16}
 use Rattle.std.proofs.Common.{inl, inr}
 use Rattle.pgw_query.specs.declared.response.TransactionStatus.{TransactionStatus}
 use Rattle.pgw_query.specs.declared.response.TransactionStatus.TheVariants.{Idle, Transaction, Error}
-use Rattle.pgw_query.specs.Rows.{status_of_byte, status_byte, ready_for_query_of, command_complete_of, query_of, row_description_of, data_row_of, field_at, field_of, field_parts, SpellsCommandComplete, SpellsQuery, SpellsRowDescription, SpellsDataRow, SpellsField, empty_query_response_of, no_data_of, parameter_description_of, SpellsParameterDescription, notification_response_of, SpellsNotificationResponse, codes_at, error_response_of, SpellsErrorResponse, notice_response_of, SpellsNoticeResponse}
+use Rattle.pgw_query.specs.Rows.{status_of_byte, status_byte, ready_for_query_of, command_complete_of, query_of, row_description_of, data_row_of, field_at, field_of, field_parts, SpellsCommandComplete, SpellsQuery, SpellsRowDescription, SpellsDataRow, SpellsField, parameter_description_of, SpellsParameterDescription, notification_response_of, SpellsNotificationResponse, codes_at, SpellsInfoResponse, info_response_of}
 use Rattle.pgw_wire.specs.Codes.{code_at, SpellsCode}
 use Rattle.pgw_wire.specs.CodeLaws.{code_shrinks}
 use Rattle.pgw_wire.proofs.MarkLaws.{marked_reads, code_reads}
@@ -116,14 +116,6 @@ ready_for_query ctx = is_row 90 30000 (lit< tt) _ (λ m. SpellsNat w8 (status_by
     (tried_reads status_of_byte status_byte (nat_at w8) (SpellsNat w8) status_back status_again
     (nat_reads w8))))
 
-pub empty_query_response : (ctx : DecodeContext) → IsRow 73 30000 (empty_query_response_of ctx) NoBody
-unfolding empty_query_response_of
-empty_query_response ctx = no_body_row 73 30000 (lit< tt) (record {}) (λ n. refl)
-
-pub no_data : (ctx : DecodeContext) → IsRow 110 30000 (no_data_of ctx) NoBody
-unfolding no_data_of
-no_data ctx = no_body_row 110 30000 (lit< tt) (record {}) (λ n. refl)
-
 pub parameter_description : (ctx : DecodeContext)
     → IsRow 116 2147483647 (parameter_description_of ctx) SpellsParameterDescription
 unfolding parameter_description_of
@@ -147,16 +139,10 @@ codes_reads =
     reads_last (marked_list_at code_at) (SpellsMarked SpellsCode)
     (marked_reads code_at SpellsCode code_shrinks code_reads)
 
-pub error_response : (ctx : DecodeContext) → IsRow 69 2147483647 (error_response_of ctx) SpellsErrorResponse
-unfolding error_response_of
-error_response ctx =
-    is_row 69 2147483647 (lit< tt) _ SpellsErrorResponse
-    (made_last (λ fields. record { fields = fields }) (λ m. m.fields) codes_at (SpellsMarked SpellsCode)
-    (λ x. refl) (λ y. refl) codes_reads)
-
-pub notice_response : (ctx : DecodeContext) → IsRow 78 2147483647 (notice_response_of ctx) SpellsNoticeResponse
-unfolding notice_response_of
-notice_response ctx =
-    is_row 78 2147483647 (lit< tt) _ SpellsNoticeResponse
+pub info_response : (byte : ℕ) (ctx : DecodeContext)
+    → IsRow byte 2147483647 (info_response_of byte ctx) SpellsInfoResponse
+unfolding info_response_of
+info_response byte ctx =
+    is_row byte 2147483647 (lit< tt) _ SpellsInfoResponse
     (made_last (λ fields. record { fields = fields }) (λ m. m.fields) codes_at (SpellsMarked SpellsCode)
     (λ x. refl) (λ y. refl) codes_reads)

@@ -15,14 +15,12 @@ use Rattle.pgw_query.specs.declared.response.CommandComplete.{CommandComplete}
 use Rattle.pgw_query.specs.declared.data.FieldDescription.{FieldDescription}
 use Rattle.pgw_query.specs.declared.data.RowDescription.{RowDescription}
 use Rattle.pgw_query.specs.declared.data.DataRow.{DataRow}
-use Rattle.pgw_query.specs.declared.response.EmptyQueryResponse.{EmptyQueryResponse}
-use Rattle.pgw_query.specs.declared.response.ErrorResponse.{ErrorResponse}
-use Rattle.pgw_query.specs.declared.response.NoticeResponse.{NoticeResponse}
+use Rattle.pgw_wire.specs.declared.empty.EmptyResponse.{EmptyResponse}
+use Rattle.pgw_query.specs.declared.response.InfoResponse.{InfoResponse}
 use Rattle.pgw_wire.specs.Codes.{code_at, SpellsCode, coded, is_code_refused}
 use Rattle.pgw_query.specs.declared.simplequery.Query.{Query}
 use Rattle.pgw_query.specs.declared.notification.NotificationResponse.{NotificationResponse}
 use Rattle.pgw_query.specs.declared.description.ParameterDescription.{ParameterDescription}
-use Rattle.pgw_query.specs.declared.description.NoData.{NoData}
 use Rattle.pgw_wire.specs.Counted.{counted16_at, SpellsCounted16}
 
 -- ---- ReadyForQuery
@@ -55,9 +53,8 @@ SpellsCommandComplete m = SpellsText m.tag
 
 -- ---- EmptyQueryResponse
 
-unfoldable pub empty_query_response_of : DecodeContext → List ℕ
-    → Result EmptyQueryResponse PgWireError
-empty_query_response_of ctx bytes = all_of (Ok (record {}, bytes))
+abbrev pub EmptyQueryResponse : Type 0
+EmptyQueryResponse = EmptyResponse 73
 
 -- ---- ErrorResponse, NoticeResponse
 
@@ -65,19 +62,20 @@ empty_query_response_of ctx bytes = all_of (Ok (record {}, bytes))
 unfoldable pub codes_at : List ℕ → Result (List (ℕ × List ℕ) × List ℕ) PgWireError
 codes_at bytes = marked_list_at code_at bytes
 
-unfoldable pub error_response_of : DecodeContext → List ℕ → Result ErrorResponse PgWireError
-error_response_of ctx bytes =
+-- ErrorResponse and NoticeResponse differ in their type bytes
+unfoldable pub info_response_of : (byte : ℕ) → DecodeContext → List ℕ
+    → Result (InfoResponse byte) PgWireError
+info_response_of byte ctx bytes =
     all_of (made_at (λ fields. record { fields = fields }) codes_at bytes)
 
-unfoldable pub notice_response_of : DecodeContext → List ℕ → Result NoticeResponse PgWireError
-notice_response_of ctx bytes =
-    all_of (made_at (λ fields. record { fields = fields }) codes_at bytes)
+abbrev pub SpellsInfoResponse : {byte : ℕ} → InfoResponse byte → List ℕ → Type 0
+SpellsInfoResponse m = SpellsMarked SpellsCode m.fields
 
-abbrev pub SpellsErrorResponse : ErrorResponse → List ℕ → Type 0
-SpellsErrorResponse m = SpellsMarked SpellsCode m.fields
+abbrev pub ErrorResponse : Type 0
+ErrorResponse = InfoResponse 69
 
-abbrev pub SpellsNoticeResponse : NoticeResponse → List ℕ → Type 0
-SpellsNoticeResponse m = SpellsMarked SpellsCode m.fields
+abbrev pub NoticeResponse : Type 0
+NoticeResponse = InfoResponse 78
 
 abbrev pub codes : List (ℕ × List ℕ) → List ℕ
 codes fields = flat_map coded fields ++ 0 ∷ []
@@ -164,7 +162,7 @@ SpellsDataRow m = Pair (SpellsInt w16) IsRest (m.field_count, m.payload)
 abbrev pub data_row : DataRow → List ℕ
 data_row m = i16 m.field_count ++ m.payload
 
--- ---- ParameterDescription, NoData
+-- ---- ParameterDescription
 
 unfoldable pub parameter_description_of : DecodeContext → List ℕ
     → Result ParameterDescription PgWireError
@@ -173,9 +171,6 @@ parameter_description_of ctx bytes =
 
 abbrev pub SpellsParameterDescription : ParameterDescription → List ℕ → Type 0
 SpellsParameterDescription m = SpellsCounted16 (SpellsNat w32) m.types
-
-unfoldable pub no_data_of : DecodeContext → List ℕ → Result NoData PgWireError
-no_data_of ctx bytes = all_of (Ok (record {}, bytes))
 
 -- ---- NotificationResponse
 

@@ -1,10 +1,10 @@
 //! What a statement needs, and that it gives no rows.
-ghost use Rattle.std.specs.Prelude.{◌≡◌, [], None};
+ghost use Rattle.std.specs.Prelude.{◌≡◌};
 ghost use Rattle.pgw_wire.specs.declared.framing.Framing.TheVariants.{Typed};
 ghost use Rattle.pgw_wire.specs.Counted.{is_too_long, counted16};
 ghost use Rattle.pgw_wire.specs.Writing.{u32 as u32_bytes, refused_if};
-ghost use Rattle.pgw_query.specs.Rows.{parameter_description_of, no_data_of};
-ghost use Rattle.pgw_wire.specs.declared.limits.TheConstants.{LONG_LIMIT, SMALL_BACKEND_LIMIT};
+ghost use Rattle.pgw_query.specs.Rows.{parameter_description_of};
+ghost use Rattle.pgw_wire.specs.declared.limits.TheConstants.{LONG_LIMIT};
 
 use pgw_types::context::DecodeContext;
 use pgw_types::error::{PgWireError, PgWireResult};
@@ -12,9 +12,10 @@ use pgw_types::listed::{Duplicate, Listed};
 use pgw_types::memory::OutOfMemory;
 use pgw_types::octets::Octets;
 use pgw_wire::counted::{put_counted16, take_counted16};
+use pgw_wire::empty::EmptyResponse;
 use pgw_wire::field::list_len;
 use pgw_wire::framing::Framing;
-use pgw_wire::limits::{LONG_LIMIT, SMALL_BACKEND_LIMIT};
+use pgw_wire::limits::LONG_LIMIT;
 use pgw_wire::message::Message;
 use pgw_wire::reader::FieldReader;
 use pgw_wire::writer::{Writer, refused_if};
@@ -86,65 +87,12 @@ impl Message for ParameterDescription {
 }
 
 /// The statement or portal gives no rows (NoData).
-#[derive(Clone, Copy, Debug, PartialEq, Eq)]
-pub struct NoData;
-
-impl NoData {
-    pub fn new() -> NoData
-        ensures { result ≡ record {} }
-    {
-        NoData
-    }
-}
-
-impl Message for NoData {
-    ghost row_framing = { Typed 110 };
-
-    ghost limit = { SMALL_BACKEND_LIMIT };
-
-    ghost reading = { no_data_of };
-
-    ghost written = { λ m. [] };
-
-    ghost fault = { λ m. None };
-
-    fn framing() -> Framing {
-        Framing::Typed(MESSAGE_TYPE_BYTE_NO_DATA)
-    }
-
-    fn max_message_length() -> usize {
-        SMALL_BACKEND_LIMIT
-    }
-
-    fn message_length(&self) -> usize {
-        4
-    }
-
-    fn refusal(&self) -> Option<PgWireError> {
-        None
-    }
-
-    fn put_body(&self, _out: &mut Writer) -> Result<(), OutOfMemory> {
-        Ok(())
-    }
-
-    #[tactic(auto, unfolding(crate::specs::Rows::no_data_of))]
-    fn decode_body(_alloc: Global, body: &Octets, _ctx: &DecodeContext) -> PgWireResult<NoData> {
-        FieldReader::new(body).finish()?;
-        Ok(NoData)
-    }
-}
+pub type NoData = EmptyResponse<MESSAGE_TYPE_BYTE_NO_DATA>;
 
 impl Duplicate for ParameterDescription {
     fn duplicate(&self) -> Result<ParameterDescription, OutOfMemory> {
         Ok(ParameterDescription {
             types: self.types.duplicate()?,
         })
-    }
-}
-
-impl Duplicate for NoData {
-    fn duplicate(&self) -> Result<NoData, OutOfMemory> {
-        Ok(NoData)
     }
 }

@@ -5,12 +5,12 @@ ghost use Rattle.pgw_wire.specs.declared.framing.Framing.TheVariants.{Typed};
 ghost use Rattle.pgw_wire.specs.Framing.{encoded};
 ghost use Rattle.pgw_wire.specs.Counted.{counted16, is_too_long};
 ghost use Rattle.pgw_wire.specs.Writing.{text, u32, has_zero, refused_if};
-ghost use Rattle.pgw_wire.specs.Formats.{IsRow, SpellsTyped, NoBody};
+ghost use Rattle.pgw_wire.specs.Formats.{IsRow, SpellsTyped};
 ghost use Rattle.pgw_query.specs.declared.simplequery.Query.{Query as TheQuery};
 ghost use Rattle.pgw_query.specs.declared.response.CommandComplete.{CommandComplete as TheCommandComplete};
 ghost use Rattle.pgw_query.specs.declared.response.ReadyForQuery.{ReadyForQuery as TheReadyForQuery};
-ghost use Rattle.pgw_query.specs.declared.response.ErrorResponse.{ErrorResponse as TheErrorResponse};
-ghost use Rattle.pgw_query.specs.declared.response.NoticeResponse.{NoticeResponse as TheNoticeResponse};
+ghost use Rattle.pgw_query.specs.declared.response.InfoResponse.{InfoResponse as TheInfoResponse};
+ghost use Rattle.pgw_query.specs.Rows.{query_of, command_complete_of, ready_for_query_of, notification_response_of, parameter_description_of, row_description_of, data_row_of, SpellsQuery, SpellsCommandComplete, SpellsReadyForQuery, SpellsNotificationResponse, SpellsParameterDescription, SpellsRowDescription, SpellsDataRow, status_byte, codes, codes_fault, is_refused, row_description, data_row, notification_response, is_notification_refused, SpellsInfoResponse, info_response_of};
 ghost use Rattle.pgw_query.specs.declared.notification.NotificationResponse.{NotificationResponse as TheNotification};
 ghost use Rattle.pgw_query.specs.declared.description.ParameterDescription.{ParameterDescription as TheParameters};
 ghost use Rattle.pgw_query.specs.declared.data.RowDescription.{RowDescription as TheRowDescription};
@@ -18,7 +18,6 @@ ghost use Rattle.pgw_query.specs.declared.data.DataRow.{DataRow as TheDataRow};
 ghost use Rattle.pgw_query.specs.declared.tag.Tag.{Tag as TheTag};
 ghost use Rattle.pgw_query.specs.Tags.{IsWord, AreCounts, tag_of, tag_text};
 ghost use Rattle.pgw_query.specs.Sound.{AreFields, AreCoded, IsDataRow, IsParameterDescription, IsNotification};
-ghost use Rattle.pgw_query.specs.Rows.{query_of, command_complete_of, empty_query_response_of, ready_for_query_of, error_response_of, notice_response_of, notification_response_of, parameter_description_of, row_description_of, data_row_of, no_data_of, SpellsQuery, SpellsCommandComplete, SpellsReadyForQuery, SpellsErrorResponse, SpellsNoticeResponse, SpellsNotificationResponse, SpellsParameterDescription, SpellsRowDescription, SpellsDataRow, status_byte, codes, codes_fault, is_refused, row_description, data_row, notification_response, is_notification_refused};
 ghost use Rattle.pgw_wire.specs.declared.limits.TheConstants.{LARGE_LIMIT, LONG_LIMIT, SMALL_BACKEND_LIMIT};
 
 /// What is read at the front of some bytes is spelled so, and what is spelled so is read, whatever follows it.
@@ -26,14 +25,10 @@ pub fn rows_are_exact()
     ensures query { (ctx : TheContext) → IsRow 81 LARGE_LIMIT (query_of ctx) SpellsQuery }
     ensures command_complete { (ctx : TheContext) →
         IsRow 67 SMALL_BACKEND_LIMIT (command_complete_of ctx) SpellsCommandComplete }
-    ensures empty_query_response { (ctx : TheContext) →
-        IsRow 73 SMALL_BACKEND_LIMIT (empty_query_response_of ctx) NoBody }
     ensures ready_for_query { (ctx : TheContext) →
         IsRow 90 SMALL_BACKEND_LIMIT (ready_for_query_of ctx) SpellsReadyForQuery }
-    ensures error_response { (ctx : TheContext) →
-        IsRow 69 LONG_LIMIT (error_response_of ctx) SpellsErrorResponse }
-    ensures notice_response { (ctx : TheContext) →
-        IsRow 78 LONG_LIMIT (notice_response_of ctx) SpellsNoticeResponse }
+    ensures info_response { (byte : ℕ) (ctx : TheContext) →
+        IsRow byte LONG_LIMIT (info_response_of byte ctx) SpellsInfoResponse }
     ensures notification_response { (ctx : TheContext) →
         IsRow 65 LONG_LIMIT (notification_response_of ctx) SpellsNotificationResponse }
     ensures parameter_description { (ctx : TheContext) →
@@ -41,7 +36,6 @@ pub fn rows_are_exact()
     ensures row_description { (ctx : TheContext) →
         IsRow 84 LONG_LIMIT (row_description_of ctx) SpellsRowDescription }
     ensures data_row { (ctx : TheContext) → IsRow 68 LONG_LIMIT (data_row_of ctx) SpellsDataRow }
-    ensures no_data { (ctx : TheContext) → IsRow 110 SMALL_BACKEND_LIMIT (no_data_of ctx) NoBody }
 {}
 
 /// What is written of a message spells it. The others have no body.
@@ -55,12 +49,9 @@ pub fn what_is_written_is_spelled()
     ensures ready_for_query { (m : TheReadyForQuery) (g : List ℕ) →
         encoded (Typed 90) SMALL_BACKEND_LIMIT None (status_byte m.status ∷ []) ≡ Ok g →
         SpellsTyped 90 SMALL_BACKEND_LIMIT SpellsReadyForQuery m g }
-    ensures error_response { (m : TheErrorResponse) (g : List ℕ) → AreCoded m.fields →
-        encoded (Typed 69) LONG_LIMIT (codes_fault m.fields) (codes m.fields) ≡ Ok g →
-        SpellsTyped 69 LONG_LIMIT SpellsErrorResponse m g }
-    ensures notice_response { (m : TheNoticeResponse) (g : List ℕ) → AreCoded m.fields →
-        encoded (Typed 78) LONG_LIMIT (codes_fault m.fields) (codes m.fields) ≡ Ok g →
-        SpellsTyped 78 LONG_LIMIT SpellsNoticeResponse m g }
+    ensures info_response { (byte : ℕ) (m : TheInfoResponse byte) (g : List ℕ) → AreCoded m.fields →
+        encoded (Typed byte) LONG_LIMIT (codes_fault m.fields) (codes m.fields) ≡ Ok g →
+        SpellsTyped byte LONG_LIMIT SpellsInfoResponse m g }
     ensures notification_response { (m : TheNotification) (g : List ℕ) → IsNotification m →
         encoded (Typed 65) LONG_LIMIT (refused_if (is_notification_refused m))
         (notification_response m) ≡ Ok g → SpellsTyped 65 LONG_LIMIT SpellsNotificationResponse m

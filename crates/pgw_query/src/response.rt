@@ -5,7 +5,7 @@ ghost use Rattle.pgw_wire.specs.declared.framing.Framing.TheVariants.{Typed};
 ghost use Rattle.pgw_wire.specs.Writing.{text, has_zero as holds_zero, refused_if};
 ghost use Rattle.std.specs.List.{list_any};
 ghost use Rattle.pgw_wire.specs.Codes.{is_code_refused};
-ghost use Rattle.pgw_query.specs.Rows.{status_of_byte, status_byte, ready_for_query_of, command_complete_of, empty_query_response_of, error_response_of, notice_response_of, codes_at, codes, codes_fault};
+ghost use Rattle.pgw_query.specs.Rows.{status_of_byte, status_byte, ready_for_query_of, command_complete_of, info_response_of, codes_at, codes, codes_fault};
 ghost use Rattle.pgw_wire.specs.Reading.{Reads};
 ghost use Rattle.pgw_wire.specs.declared.limits.TheConstants.{LONG_LIMIT, SMALL_BACKEND_LIMIT};
 
@@ -16,6 +16,7 @@ use pgw_types::listed::{Duplicate, Listed};
 use pgw_types::memory::OutOfMemory;
 use pgw_types::octets::Octets;
 use pgw_types::text::Text;
+use pgw_wire::empty::EmptyResponse;
 use pgw_wire::field::{list_len, put_list};
 use pgw_wire::framing::Framing;
 use pgw_wire::item::take_up_to_mark;
@@ -189,58 +190,7 @@ impl Message for CommandComplete {
 }
 
 /// An answer to an empty query (EmptyQueryResponse).
-#[derive(Clone, Copy, Debug, PartialEq, Eq)]
-pub struct EmptyQueryResponse;
-
-impl EmptyQueryResponse {
-    pub fn new() -> EmptyQueryResponse
-        ensures { result ≡ record {} }
-    {
-        EmptyQueryResponse
-    }
-}
-
-impl Message for EmptyQueryResponse {
-    ghost row_framing = { Typed 73 };
-
-    ghost limit = { SMALL_BACKEND_LIMIT };
-
-    ghost reading = { empty_query_response_of };
-
-    ghost written = { λ m. [] };
-
-    ghost fault = { λ m. None };
-
-    fn framing() -> Framing {
-        Framing::Typed(MESSAGE_TYPE_BYTE_EMPTY_QUERY_RESPONSE)
-    }
-
-    fn max_message_length() -> usize {
-        SMALL_BACKEND_LIMIT
-    }
-
-    fn message_length(&self) -> usize {
-        4
-    }
-
-    fn refusal(&self) -> Option<PgWireError> {
-        None
-    }
-
-    fn put_body(&self, _out: &mut Writer) -> Result<(), OutOfMemory> {
-        Ok(())
-    }
-
-    #[tactic(auto, unfolding(crate::specs::Rows::empty_query_response_of))]
-    fn decode_body(
-        _alloc: Global,
-        body: &Octets,
-        _ctx: &DecodeContext,
-    ) -> PgWireResult<EmptyQueryResponse> {
-        FieldReader::new(body).finish()?;
-        Ok(EmptyQueryResponse)
-    }
-}
+pub type EmptyQueryResponse = EmptyResponse<MESSAGE_TYPE_BYTE_EMPTY_QUERY_RESPONSE>;
 
 // The fields up to the mark.
 #[tactic(auto, unfolding(crate::specs::Rows::codes_at))]
@@ -271,42 +221,48 @@ fn put_codes(out: &mut Writer, fields: &[(u8, Text)]) -> Result<(), OutOfMemory>
     put_u8(out, 0)
 }
 
-/// An error, as fields with their codes (ErrorResponse).
+/// What a server tells of an error or a notice, as fields with their codes (ErrorResponse, NoticeResponse).
 #[derive(Debug, Drop, PartialEq, Eq)]
-pub struct ErrorResponse {
+pub struct InfoResponse<const TYPE: u8> {
     pub fields: Listed<(u8, Text)>,
 }
 
-impl ErrorResponse {
-    pub fn new(fields: Listed<(u8, Text)>) -> ErrorResponse
+/// A command, or the connection, failed.
+pub type ErrorResponse = InfoResponse<MESSAGE_TYPE_BYTE_ERROR_RESPONSE>;
+
+/// A warning, or another word to the user; nothing failed.
+pub type NoticeResponse = InfoResponse<MESSAGE_TYPE_BYTE_NOTICE_RESPONSE>;
+
+impl<const TYPE: u8> InfoResponse<TYPE> {
+    pub fn new(fields: Listed<(u8, Text)>) -> InfoResponse<TYPE>
         ensures { result ≡ record { fields = fields } }
     {
-        ErrorResponse { fields }
+        InfoResponse { fields }
     }
 
     /// The parts that are set, as fields, from which `ErrorInfo::from_fields` leads back.
-    pub fn from_info(alloc: Global, info: ErrorInfo) -> Result<ErrorResponse, OutOfMemory>
+    pub fn from_info(alloc: Global, info: ErrorInfo) -> Result<InfoResponse<TYPE>, OutOfMemory>
         ensures fields { IfOk result (λ m. m.fields ≡ fields_of info) }
         ensures back { IfOk result (λ m. info_from m.fields ≡ info) }
     {
         let fields = info.into_fields(alloc)?;
-        Ok(ErrorResponse { fields })
+        Ok(InfoResponse { fields })
     }
 }
 
-impl Message for ErrorResponse {
-    ghost row_framing = { Typed 69 };
+impl<const TYPE: u8> Message for InfoResponse<TYPE> {
+    ghost row_framing = { Typed TYPE };
 
     ghost limit = { LONG_LIMIT };
 
-    ghost reading = { error_response_of };
+    ghost reading = { info_response_of TYPE };
 
     ghost written = { λ m. codes m.fields };
 
     ghost fault = { λ m. codes_fault m.fields };
 
     fn framing() -> Framing {
-        Framing::Typed(MESSAGE_TYPE_BYTE_ERROR_RESPONSE)
+        Framing::Typed(TYPE)
     }
 
     fn max_message_length() -> usize {
@@ -325,83 +281,16 @@ impl Message for ErrorResponse {
         put_codes(out, self.fields.as_slice())
     }
 
-    #[tactic(auto, unfolding(crate::specs::Rows::error_response_of))]
+    #[tactic(auto, unfolding(crate::specs::Rows::info_response_of))]
     fn decode_body(
         alloc: Global,
         body: &Octets,
         _ctx: &DecodeContext,
-    ) -> PgWireResult<ErrorResponse> {
+    ) -> PgWireResult<InfoResponse<TYPE>> {
         let mut reader = FieldReader::new(body);
         let fields = take_codes(alloc, &mut reader)?;
         reader.finish()?;
-        Ok(ErrorResponse { fields })
-    }
-}
-
-/// A notice, as fields with their codes (NoticeResponse).
-#[derive(Debug, Drop, PartialEq, Eq)]
-pub struct NoticeResponse {
-    pub fields: Listed<(u8, Text)>,
-}
-
-impl NoticeResponse {
-    pub fn new(fields: Listed<(u8, Text)>) -> NoticeResponse
-        ensures { result ≡ record { fields = fields } }
-    {
-        NoticeResponse { fields }
-    }
-
-    /// The parts that are set, as fields, from which `ErrorInfo::from_fields` leads back.
-    pub fn from_info(alloc: Global, info: ErrorInfo) -> Result<NoticeResponse, OutOfMemory>
-        ensures fields { IfOk result (λ m. m.fields ≡ fields_of info) }
-        ensures back { IfOk result (λ m. info_from m.fields ≡ info) }
-    {
-        let fields = info.into_fields(alloc)?;
-        Ok(NoticeResponse { fields })
-    }
-}
-
-impl Message for NoticeResponse {
-    ghost row_framing = { Typed 78 };
-
-    ghost limit = { LONG_LIMIT };
-
-    ghost reading = { notice_response_of };
-
-    ghost written = { λ m. codes m.fields };
-
-    ghost fault = { λ m. codes_fault m.fields };
-
-    fn framing() -> Framing {
-        Framing::Typed(MESSAGE_TYPE_BYTE_NOTICE_RESPONSE)
-    }
-
-    fn max_message_length() -> usize {
-        LONG_LIMIT
-    }
-
-    fn message_length(&self) -> usize {
-        list_len(self.fields.as_slice(), 5)
-    }
-
-    fn refusal(&self) -> Option<PgWireError> {
-        refused_if(any_refused(self.fields.as_slice()))
-    }
-
-    fn put_body(&self, out: &mut Writer) -> Result<(), OutOfMemory> {
-        put_codes(out, self.fields.as_slice())
-    }
-
-    #[tactic(auto, unfolding(crate::specs::Rows::notice_response_of))]
-    fn decode_body(
-        alloc: Global,
-        body: &Octets,
-        _ctx: &DecodeContext,
-    ) -> PgWireResult<NoticeResponse> {
-        let mut reader = FieldReader::new(body);
-        let fields = take_codes(alloc, &mut reader)?;
-        reader.finish()?;
-        Ok(NoticeResponse { fields })
+        Ok(InfoResponse { fields })
     }
 }
 
@@ -421,23 +310,9 @@ impl Duplicate for CommandComplete {
     }
 }
 
-impl Duplicate for EmptyQueryResponse {
-    fn duplicate(&self) -> Result<EmptyQueryResponse, OutOfMemory> {
-        Ok(*self)
-    }
-}
-
-impl Duplicate for ErrorResponse {
-    fn duplicate(&self) -> Result<ErrorResponse, OutOfMemory> {
-        Ok(ErrorResponse {
-            fields: self.fields.duplicate()?,
-        })
-    }
-}
-
-impl Duplicate for NoticeResponse {
-    fn duplicate(&self) -> Result<NoticeResponse, OutOfMemory> {
-        Ok(NoticeResponse {
+impl<const TYPE: u8> Duplicate for InfoResponse<TYPE> {
+    fn duplicate(&self) -> Result<InfoResponse<TYPE>, OutOfMemory> {
+        Ok(InfoResponse {
             fields: self.fields.duplicate()?,
         })
     }

@@ -14,11 +14,11 @@ use Rattle.pgw_wire.specs.Counted.{counted16_at}
 use Rattle.pgw_wire.specs.Codes.{code_at}
 use Rattle.pgw_wire.specs.Keys.{is_no_key, key_by, key_of}
 use Rattle.pgw_wire.specs.Framing.{length_frame, frame, framed, wire_front, stated_length, as_one_of}
+use Rattle.pgw_wire.specs.Empty.{empty_request_of, empty_response_of}
 use Rattle.pgw_startup.specs.Login.{by_code, authentication_of, parameter_status_of, backend_key_data_of, negotiate_of}
 use Rattle.pgw_startup.specs.Response.{ssl_reply, gss_reply, ssl_response_of, gss_enc_response_of}
-use Rattle.pgw_query.specs.Rows.{status_of_byte, ready_for_query_of, command_complete_of, empty_query_response_of, codes_at, error_response_of, notice_response_of, field_at, row_description_of, data_row_of, parameter_description_of, no_data_of, notification_response_of}
-use Rattle.pgw_ext.specs.Rows.{parse_complete_of, bind_complete_of, close_complete_of, portal_suspended_of}
-use Rattle.pgw_copy.specs.Rows.{copy_data_of, copy_done_of, copy_fail_of, columns_at, copy_response_of}
+use Rattle.pgw_query.specs.Rows.{status_of_byte, ready_for_query_of, command_complete_of, codes_at, field_at, row_description_of, data_row_of, parameter_description_of, notification_response_of, info_response_of}
+use Rattle.pgw_copy.specs.Rows.{copy_data_of, copy_fail_of, columns_at, copy_response_of}
 use Rattle.pgw_backend.specs.declared.backend.PgWireBackendMessage.{PgWireBackendMessage}
 use Rattle.pgw_backend.specs.Backend.{copy_by, extended_by, query_by, backend_by, backend_front}
 use Rattle.pgw_backend.specs.Front as message
@@ -215,13 +215,9 @@ codes_fine : IsFine codes_at
 unfolding codes_at
 codes_fine bytes = marked_list_fine code_at code_fine bytes
 
-error_fine : (ctx : DecodeContext) → IsFine (error_response_of ctx)
-unfolding error_response_of
-error_fine ctx bytes = all_fine _ (made_fine _ codes_at codes_fine bytes)
-
-notice_fine : (ctx : DecodeContext) → IsFine (notice_response_of ctx)
-unfolding notice_response_of
-notice_fine ctx bytes = all_fine _ (made_fine _ codes_at codes_fine bytes)
+info_fine : (byte : ℕ) (ctx : DecodeContext) → IsFine (info_response_of byte ctx)
+unfolding info_response_of
+info_fine byte ctx bytes = all_fine _ (made_fine _ codes_at codes_fine bytes)
 
 notification_fine : (ctx : DecodeContext) → IsFine (notification_response_of ctx)
 unfolding notification_response_of
@@ -275,33 +271,13 @@ unfolding copy_response_of
 copy_response_fine byte ctx bytes = all_fine _ (made_fine _ columns_at columns_fine bytes)
 
 -- messages without a body
-empty_query_fine : (ctx : DecodeContext) → IsFine (empty_query_response_of ctx)
-unfolding empty_query_response_of
-empty_query_fine ctx bytes = then (read_end bytes) _ (ended_fine bytes) (λ u. tt)
+empty_request_fine : (byte : ℕ) (ctx : DecodeContext) → IsFine (empty_request_of byte ctx)
+unfolding empty_request_of
+empty_request_fine byte ctx bytes = then (read_end bytes) _ (ended_fine bytes) (λ u. tt)
 
-no_data_fine : (ctx : DecodeContext) → IsFine (no_data_of ctx)
-unfolding no_data_of
-no_data_fine ctx bytes = then (read_end bytes) _ (ended_fine bytes) (λ u. tt)
-
-parse_complete_fine : (ctx : DecodeContext) → IsFine (parse_complete_of ctx)
-unfolding parse_complete_of
-parse_complete_fine ctx bytes = then (read_end bytes) _ (ended_fine bytes) (λ u. tt)
-
-bind_complete_fine : (ctx : DecodeContext) → IsFine (bind_complete_of ctx)
-unfolding bind_complete_of
-bind_complete_fine ctx bytes = then (read_end bytes) _ (ended_fine bytes) (λ u. tt)
-
-close_complete_fine : (ctx : DecodeContext) → IsFine (close_complete_of ctx)
-unfolding close_complete_of
-close_complete_fine ctx bytes = then (read_end bytes) _ (ended_fine bytes) (λ u. tt)
-
-suspended_fine : (ctx : DecodeContext) → IsFine (portal_suspended_of ctx)
-unfolding portal_suspended_of
-suspended_fine ctx bytes = then (read_end bytes) _ (ended_fine bytes) (λ u. tt)
-
-copy_done_fine : (ctx : DecodeContext) → IsFine (copy_done_of ctx)
-unfolding copy_done_of
-copy_done_fine ctx bytes = then (read_end bytes) _ (ended_fine bytes) (λ u. tt)
+empty_response_fine : (byte : ℕ) (ctx : DecodeContext) → IsFine (empty_response_of byte ctx)
+unfolding empty_response_of
+empty_response_fine byte ctx bytes = then (read_end bytes) _ (ended_fine bytes) (λ u. tt)
 
 -- ---- the front
 
@@ -348,7 +324,8 @@ copy_by_fine : (byte : ℕ) (ctx : DecodeContext) (bytes : List ℕ) → Fine (c
 copy_by_fine byte ctx bytes =
     either (byte == 100) _ _
     (as_one_fine _ (Typed 100) tt 1073741822 (copy_data_of ctx) (copy_data_fine ctx) bytes)
-    (either (byte == 99) _ _ (as_one_fine _ (Typed 99) tt 10000 (copy_done_of ctx) (copy_done_fine ctx) bytes)
+    (either (byte == 99) _ _ (as_one_fine _ (Typed 99) tt 10000 (empty_request_of 99 ctx)
+    (empty_request_fine 99 ctx) bytes)
     (either (byte == 102) _ _ (as_one_fine _ (Typed 102) tt 10000 (copy_fail_of ctx) (copy_fail_fine ctx) bytes)
     (either (byte == 71) _ _
     (as_one_fine _ (Typed 71) tt 30000 (copy_response_of 71 ctx) (copy_response_fine 71 ctx) bytes)
@@ -360,14 +337,15 @@ copy_by_fine byte ctx bytes =
 extended_by_fine : (byte : ℕ) (ctx : DecodeContext) (bytes : List ℕ) → Fine (extended_by byte ctx bytes)
 extended_by_fine byte ctx bytes =
     either (byte == 49) _ _
-    (as_one_fine _ (Typed 49) tt 30000 (parse_complete_of ctx) (parse_complete_fine ctx) bytes)
+    (as_one_fine _ (Typed 49) tt 30000 (empty_response_of 49 ctx) (empty_response_fine 49 ctx) bytes)
     (either (byte == 50) _ _
-    (as_one_fine _ (Typed 50) tt 30000 (bind_complete_of ctx) (bind_complete_fine ctx) bytes)
+    (as_one_fine _ (Typed 50) tt 30000 (empty_response_of 50 ctx) (empty_response_fine 50 ctx) bytes)
     (either (byte == 51) _ _
-    (as_one_fine _ (Typed 51) tt 30000 (close_complete_of ctx) (close_complete_fine ctx) bytes)
+    (as_one_fine _ (Typed 51) tt 30000 (empty_response_of 51 ctx) (empty_response_fine 51 ctx) bytes)
     (either (byte == 115) _ _
-    (as_one_fine _ (Typed 115) tt 30000 (portal_suspended_of ctx) (suspended_fine ctx) bytes)
-    (either (byte == 110) _ _ (as_one_fine _ (Typed 110) tt 30000 (no_data_of ctx) (no_data_fine ctx) bytes)
+    (as_one_fine _ (Typed 115) tt 30000 (empty_response_of 115 ctx) (empty_response_fine 115 ctx) bytes)
+    (either (byte == 110) _ _ (as_one_fine _ (Typed 110) tt 30000 (empty_response_of 110 ctx)
+    (empty_response_fine 110 ctx) bytes)
     (either (byte == 116) _ _
     (as_one_fine _ (Typed 116) tt 2147483647 (parameter_description_of ctx) (parameter_description_fine ctx)
     bytes) (copy_by_fine byte ctx bytes))))))
@@ -377,12 +355,12 @@ query_by_fine byte ctx bytes =
     either (byte == 67) _ _
     (as_one_fine _ (Typed 67) tt 30000 (command_complete_of ctx) (command_complete_fine ctx) bytes)
     (either (byte == 73) _ _
-    (as_one_fine _ (Typed 73) tt 30000 (empty_query_response_of ctx) (empty_query_fine ctx) bytes)
+    (as_one_fine _ (Typed 73) tt 30000 (empty_response_of 73 ctx) (empty_response_fine 73 ctx) bytes)
     (either (byte == 90) _ _ (as_one_fine _ (Typed 90) tt 30000 (ready_for_query_of ctx) (ready_fine ctx) bytes)
     (either (byte == 69) _ _
-    (as_one_fine _ (Typed 69) tt 2147483647 (error_response_of ctx) (error_fine ctx) bytes)
+    (as_one_fine _ (Typed 69) tt 2147483647 (info_response_of 69 ctx) (info_fine 69 ctx) bytes)
     (either (byte == 78) _ _
-    (as_one_fine _ (Typed 78) tt 2147483647 (notice_response_of ctx) (notice_fine ctx) bytes)
+    (as_one_fine _ (Typed 78) tt 2147483647 (info_response_of 78 ctx) (info_fine 78 ctx) bytes)
     (either (byte == 65) _ _
     (as_one_fine _ (Typed 65) tt 2147483647 (notification_response_of ctx) (notification_fine ctx) bytes)
     (either (byte == 84) _ _

@@ -9,7 +9,7 @@ use Rattle.pgw_backend.specs.declared.backend.PgWireBackendMessage.TheVariants a
 use Rattle.pgw_backend.specs.declared.client_error.PgWireClientError.{PgWireClientError as ClientError}
 use Rattle.pgw_backend.specs.declared.client_error.PgWireClientError.TheVariants as client
 use Rattle.pgw_frontend.specs.declared.frontend.PgWireFrontendMessage.{PgWireFrontendMessage as Frontend}
-use Rattle.pgw_query.specs.declared.response.ErrorResponse.{ErrorResponse}
+use Rattle.pgw_query.specs.Rows.{ErrorResponse}
 use Rattle.pgw_query.specs.declared.response.ReadyForQuery.{ReadyForQuery}
 use Rattle.pgw_session.specs.declared.types.SessionReport.{SessionReport}
 use Rattle.pgw_session.specs.Events.{Event, Sent, Got, all_events}

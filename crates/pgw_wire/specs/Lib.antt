@@ -12,5 +12,6 @@ pub mod Codes
 pub mod CodeLaws
 pub mod Keys
 pub mod Counted
+pub mod Empty
 pub mod Draft
 pub mod Values

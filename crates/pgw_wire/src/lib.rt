@@ -7,6 +7,7 @@
 
 pub mod buffer;
 pub mod counted;
+pub mod empty;
 pub mod equality;
 pub mod field;
 pub mod framing;
@@ -23,6 +24,7 @@ pub mod writer;
 
 pub use crate::buffer::Buffer;
 pub use crate::counted::{put_counted16, take_counted16};
+pub use crate::empty::{EmptyRequest, EmptyResponse};
 pub use crate::field::{Field, list_len, put_list, take_list, unsigned_count};
 pub use crate::framing::{Framing, frame_of};
 pub use crate::header::{length_at, whole_end};

@@ -8,25 +8,19 @@ use Rattle.pgw_startup.specs.declared.authentication.Authentication.{Authenticat
 use Rattle.pgw_startup.specs.declared.parameter_status.ParameterStatus.{ParameterStatus}
 use Rattle.pgw_startup.specs.declared.backend_key_data.BackendKeyData.{BackendKeyData}
 use Rattle.pgw_startup.specs.declared.negotiate.NegotiateProtocolVersion.{NegotiateProtocolVersion}
-use Rattle.pgw_ext.specs.declared.parse.ParseComplete.{ParseComplete}
-use Rattle.pgw_ext.specs.declared.bind.BindComplete.{BindComplete}
-use Rattle.pgw_ext.specs.declared.target.CloseComplete.{CloseComplete}
-use Rattle.pgw_ext.specs.declared.execute.PortalSuspended.{PortalSuspended}
-use Rattle.pgw_query.specs.declared.response.EmptyQueryResponse.{EmptyQueryResponse}
-use Rattle.pgw_query.specs.declared.description.NoData.{NoData}
 use Rattle.pgw_query.specs.declared.response.CommandComplete.{CommandComplete}
 use Rattle.pgw_query.specs.declared.response.ReadyForQuery.{ReadyForQuery}
-use Rattle.pgw_query.specs.declared.response.ErrorResponse.{ErrorResponse}
-use Rattle.pgw_query.specs.declared.response.NoticeResponse.{NoticeResponse}
+use Rattle.pgw_query.specs.Rows.{ErrorResponse, NoticeResponse}
 use Rattle.pgw_query.specs.declared.notification.NotificationResponse.{NotificationResponse}
 use Rattle.pgw_query.specs.declared.description.ParameterDescription.{ParameterDescription}
 use Rattle.pgw_query.specs.declared.data.RowDescription.{RowDescription}
 use Rattle.pgw_query.specs.declared.data.DataRow.{DataRow}
 use Rattle.pgw_copy.specs.declared.data.CopyData.{CopyData}
-use Rattle.pgw_copy.specs.declared.data.CopyDone.{CopyDone}
 use Rattle.pgw_copy.specs.declared.data.CopyFail.{CopyFail}
 use Rattle.pgw_copy.specs.declared.response.CopyResponse.{CopyResponse}
 use Rattle.pgw_wire.proofs.EqualLaws.{made_exact, none_exact, sum_exact, field_exact}
+use Rattle.pgw_wire.specs.declared.empty.EmptyRequest.{EmptyRequest}
+use Rattle.pgw_wire.specs.declared.empty.EmptyResponse.{EmptyResponse}
 use Rattle.pgw_backend.proofs.equality.equality_is_exact.Goals as goal
 
 -- a message as one of its kinds
@@ -38,12 +32,12 @@ Kinds =
     ((ParameterStatus × Unit {0}) ⊎
     ((BackendKeyData × Unit {0}) ⊎
     ((NegotiateProtocolVersion × Unit {0}) ⊎
-    ((ParseComplete × Unit {0}) ⊎
-    ((BindComplete × Unit {0}) ⊎
-    ((CloseComplete × Unit {0}) ⊎
-    ((PortalSuspended × Unit {0}) ⊎
-    ((EmptyQueryResponse × Unit {0}) ⊎
-    ((NoData × Unit {0}) ⊎
+    ((EmptyResponse 49 × Unit {0}) ⊎
+    ((EmptyResponse 50 × Unit {0}) ⊎
+    ((EmptyResponse 51 × Unit {0}) ⊎
+    ((EmptyResponse 115 × Unit {0}) ⊎
+    ((EmptyResponse 73 × Unit {0}) ⊎
+    ((EmptyResponse 110 × Unit {0}) ⊎
     ((CommandComplete × Unit {0}) ⊎
     ((ReadyForQuery × Unit {0}) ⊎
     ((ErrorResponse × Unit {0}) ⊎
@@ -53,7 +47,7 @@ Kinds =
     ((RowDescription × Unit {0}) ⊎
     ((DataRow × Unit {0}) ⊎
     ((CopyData × Unit {0}) ⊎
-    ((CopyDone × Unit {0}) ⊎
+    ((EmptyRequest 99 × Unit {0}) ⊎
     ((CopyFail × Unit {0})
     ⊎ ((CopyResponse 71 × Unit {0}) ⊎
     ((CopyResponse 72 × Unit {0}) ⊎ ((CopyResponse 87 × Unit {0}) ⊎ ⊥)))))))))))))))))))))))))
@@ -151,23 +145,23 @@ returns c =
     (sum_exact _ _ (field_exact _ (c.equality_is_exact.ensures.parameter_status))
     (sum_exact _ _ (field_exact _ (c.equality_is_exact.ensures.backend_key_data))
     (sum_exact _ _ (field_exact _ (c.equality_is_exact.ensures.negotiate_protocol_version))
-    (sum_exact _ _ (field_exact _ (c.equality_is_exact-3.ensures.parse_complete))
-    (sum_exact _ _ (field_exact _ (c.equality_is_exact-3.ensures.bind_complete))
-    (sum_exact _ _ (field_exact _ (c.equality_is_exact-3.ensures.close_complete))
-    (sum_exact _ _ (field_exact _ (c.equality_is_exact-3.ensures.portal_suspended))
-    (sum_exact _ _ (field_exact _ (c.equality_is_exact-2.ensures.empty_query_response))
-    (sum_exact _ _ (field_exact _ (c.equality_is_exact-2.ensures.no_data))
+    (sum_exact _ _ (field_exact _ (c.empty_equality_is_exact.ensures.response))
+    (sum_exact _ _ (field_exact _ (c.empty_equality_is_exact-2.ensures.response))
+    (sum_exact _ _ (field_exact _ (c.empty_equality_is_exact-3.ensures.response))
+    (sum_exact _ _ (field_exact _ (c.empty_equality_is_exact-4.ensures.response))
+    (sum_exact _ _ (field_exact _ (c.empty_equality_is_exact-5.ensures.response))
+    (sum_exact _ _ (field_exact _ (c.empty_equality_is_exact-6.ensures.response))
     (sum_exact _ _ (field_exact _ (c.equality_is_exact-2.ensures.command_complete))
     (sum_exact _ _ (field_exact _ (c.equality_is_exact-2.ensures.ready_for_query))
-    (sum_exact _ _ (field_exact _ (c.equality_is_exact-2.ensures.error_response))
-    (sum_exact _ _ (field_exact _ (c.equality_is_exact-2.ensures.notice_response))
+    (sum_exact _ _ (field_exact _ (c.info_equality_is_exact.ensures))
+    (sum_exact _ _ (field_exact _ (c.info_equality_is_exact-2.ensures))
     (sum_exact _ _ (field_exact _ (c.equality_is_exact-2.ensures.notification_response))
     (sum_exact _ _ (field_exact _ (c.equality_is_exact-2.ensures.parameter_description))
     (sum_exact _ _ (field_exact _ (c.equality_is_exact-2.ensures.row_description))
     (sum_exact _ _ (field_exact _ (c.equality_is_exact-2.ensures.data_row))
-    (sum_exact _ _ (field_exact _ (c.equality_is_exact-4.ensures.copy_data))
-    (sum_exact _ _ (field_exact _ (c.equality_is_exact-4.ensures.copy_done))
-    (sum_exact _ _ (field_exact _ (c.equality_is_exact-4.ensures.copy_fail))
+    (sum_exact _ _ (field_exact _ (c.equality_is_exact-3.ensures.copy_data))
+    (sum_exact _ _ (field_exact _ (c.empty_equality_is_exact-7.ensures.request))
+    (sum_exact _ _ (field_exact _ (c.equality_is_exact-3.ensures.copy_fail))
     (sum_exact _ _ (field_exact _
     (c.response_equality_is_exact.ensures))
     (sum_exact _ _ (field_exact _

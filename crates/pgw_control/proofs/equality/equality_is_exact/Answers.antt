@@ -14,6 +14,3 @@ pub returns-clause-cancel_request : goal.returns-clause-cancel_request
 returns-clause-cancel_request c =
     made_exact {Y = CancelRequest} (λ x. (x.pid, x.secret_key)) (λ p. record { pid = p.0; secret_key = p.1 })
     (λ x. refl) _ (both_exact _ _ Decides-int_eq c.equality_is_exact.ensures.secret_key)
-
-pub returns-clause-terminate : goal.returns-clause-terminate
-returns-clause-terminate c = one_exact (λ x y. refl)

@@ -2,15 +2,12 @@ use Rattle.std.proofs.Common.{refl}
 use Rattle.std.specs.Cmp.Lexicographic.{bytes_decides}
 use Rattle.pgw_copy.specs.declared.data.CopyData.{CopyData}
 use Rattle.pgw_copy.specs.declared.data.CopyFail.{CopyFail}
-use Rattle.pgw_wire.proofs.EqualLaws.{made_exact, one_exact}
+use Rattle.pgw_wire.proofs.EqualLaws.{made_exact}
 use Rattle.pgw_copy.proofs.equality.equality_is_exact.Goals as goal
 
 pub returns-clause-copy_data : goal.returns-clause-copy_data
 returns-clause-copy_data c =
     made_exact {Y = CopyData} (λ x. x.payload) (λ p. record { payload = p }) (λ x. refl) _ bytes_decides
-
-pub returns-clause-copy_done : goal.returns-clause-copy_done
-returns-clause-copy_done c = one_exact (λ x y. refl)
 
 pub returns-clause-copy_fail : goal.returns-clause-copy_fail
 returns-clause-copy_fail c =

@@ -6,7 +6,7 @@ use Rattle.pgw_ext.specs.declared.bind.Bind.{Bind}
 use Rattle.pgw_ext.specs.declared.target.Close.{Close}
 use Rattle.pgw_ext.specs.declared.target.Describe.{Describe}
 use Rattle.pgw_ext.specs.declared.execute.Execute.{Execute}
-use Rattle.pgw_wire.proofs.EqualLaws.{option_exact, both_exact, made_exact, one_exact}
+use Rattle.pgw_wire.proofs.EqualLaws.{option_exact, both_exact, made_exact}
 use Rattle.pgw_ext.proofs.equality.equality_is_exact.Goals as goal
 
 pub returns-clause-parse : goal.returns-clause-parse
@@ -15,9 +15,6 @@ returns-clause-parse c =
     (λ p. record { name = p.0; query = p.1.0; type_oids = p.1.1 }) (λ x. refl) _
     (both_exact _ _ (option_exact _ bytes_decides)
     (both_exact _ _ bytes_decides (pointwise_decides Decides-eqb)))
-
-pub returns-clause-parse_complete : goal.returns-clause-parse_complete
-returns-clause-parse_complete c = one_exact (λ x y. refl)
 
 pub returns-clause-bind : goal.returns-clause-bind
 returns-clause-bind c =
@@ -44,16 +41,10 @@ returns-clause-bind c =
     (both_exact _ _ (pointwise_decides (option_exact _ bytes_decides))
     (pointwise_decides Decides-int_eq)))))
 
-pub returns-clause-bind_complete : goal.returns-clause-bind_complete
-returns-clause-bind_complete c = one_exact (λ x y. refl)
-
 pub returns-clause-close : goal.returns-clause-close
 returns-clause-close c =
     made_exact {Y = Close} (λ x. (x.target_type, x.name)) (λ p. record { target_type = p.0; name = p.1 })
     (λ x. refl) _ (both_exact _ _ Decides-eqb (option_exact _ bytes_decides))
-
-pub returns-clause-close_complete : goal.returns-clause-close_complete
-returns-clause-close_complete c = one_exact (λ x y. refl)
 
 pub returns-clause-describe : goal.returns-clause-describe
 returns-clause-describe c =
@@ -64,12 +55,3 @@ pub returns-clause-execute : goal.returns-clause-execute
 returns-clause-execute c =
     made_exact {Y = Execute} (λ x. (x.name, x.max_rows)) (λ p. record { name = p.0; max_rows = p.1 }) (λ x. refl)
     _ (both_exact _ _ (option_exact _ bytes_decides) Decides-int_eq)
-
-pub returns-clause-portal_suspended : goal.returns-clause-portal_suspended
-returns-clause-portal_suspended c = one_exact (λ x y. refl)
-
-pub returns-clause-flush : goal.returns-clause-flush
-returns-clause-flush c = one_exact (λ x y. refl)
-
-pub returns-clause-sync : goal.returns-clause-sync
-returns-clause-sync c = one_exact (λ x y. refl)

@@ -7,20 +7,17 @@ use Rattle.pgw_frontend.specs.declared.frontend.SslNegotiationMetaMessage.{SslNe
 use Rattle.pgw_startup.specs.declared.startup.Startup.{Startup}
 use Rattle.pgw_control.specs.declared.cancel.CancelRequest.{CancelRequest}
 use Rattle.pgw_startup.specs.declared.password.PasswordMessageFamily.{PasswordMessageFamily}
-use Rattle.pgw_ext.specs.declared.execute.PortalSuspended.{PortalSuspended}
 use Rattle.pgw_query.specs.declared.simplequery.Query.{Query}
 use Rattle.pgw_ext.specs.declared.parse.Parse.{Parse}
 use Rattle.pgw_ext.specs.declared.bind.Bind.{Bind}
 use Rattle.pgw_ext.specs.declared.target.Close.{Close}
 use Rattle.pgw_ext.specs.declared.target.Describe.{Describe}
 use Rattle.pgw_ext.specs.declared.execute.Execute.{Execute}
-use Rattle.pgw_ext.specs.declared.flush.Flush.{Flush}
-use Rattle.pgw_ext.specs.declared.flush.Sync.{Sync}
-use Rattle.pgw_control.specs.declared.terminate.Terminate.{Terminate}
 use Rattle.pgw_copy.specs.declared.data.CopyData.{CopyData}
-use Rattle.pgw_copy.specs.declared.data.CopyDone.{CopyDone}
 use Rattle.pgw_copy.specs.declared.data.CopyFail.{CopyFail}
 use Rattle.pgw_wire.proofs.EqualLaws.{made_exact, none_exact, sum_exact, field_exact}
+use Rattle.pgw_wire.specs.declared.empty.EmptyRequest.{EmptyRequest}
+use Rattle.pgw_wire.specs.declared.empty.EmptyResponse.{EmptyResponse}
 use Rattle.pgw_frontend.proofs.equality.equality_is_exact.Goals as goal
 
 pub returns-clause-negotiation : goal.returns-clause-negotiation
@@ -44,14 +41,14 @@ Kinds =
     ⊎ ((Startup × Unit {0}) ⊎
     ((CancelRequest × Unit {0}) ⊎
     ((PasswordMessageFamily × Unit {0}) ⊎
-    ((PortalSuspended × Unit {0}) ⊎
+    ((EmptyResponse 115 × Unit {0}) ⊎
     ((Query × Unit {0}) ⊎
     ((Parse × Unit {0}) ⊎
     ((Bind × Unit {0}) ⊎ ((Close × Unit {0}) ⊎
     ((Describe × Unit {0}) ⊎ ((Execute × Unit {0})
-    ⊎ ((Flush × Unit {0}) ⊎ ((Sync × Unit {0})
-    ⊎ ((Terminate × Unit {0}) ⊎ ((CopyData × Unit {0})
-    ⊎ ((CopyDone × Unit {0}) ⊎ ((CopyFail × Unit {0}) ⊎ ⊥))))))))))))))))
+    ⊎ ((EmptyRequest 72 × Unit {0}) ⊎ ((EmptyRequest 83 × Unit {0})
+    ⊎ ((EmptyRequest 88 × Unit {0}) ⊎ ((CopyData × Unit {0})
+    ⊎ ((EmptyRequest 99 × Unit {0}) ⊎ ((CopyFail × Unit {0}) ⊎ ⊥))))))))))))))))
 
 from_kind : Kinds → PgWireFrontendMessage
 from_kind (inl x) = frontend.SslNegotiation x.0
@@ -105,17 +102,17 @@ returns-clause-message c =
     (sum_exact _ _ (field_exact _ (c.equality_is_exact-2.ensures.startup))
     (sum_exact _ _ (field_exact _ (c.equality_is_exact.ensures.cancel_request))
     (sum_exact _ _ (field_exact _ (c.equality_is_exact-2.ensures.password_message_family))
-    (sum_exact _ _ (field_exact _ (c.equality_is_exact-4.ensures.portal_suspended))
+    (sum_exact _ _ (field_exact _ (c.empty_equality_is_exact.ensures.response))
     (sum_exact _ _ (field_exact _ (c.equality_is_exact-3.ensures.query))
     (sum_exact _ _ (field_exact _ (c.equality_is_exact-4.ensures.parse))
     (sum_exact _ _ (field_exact _ (c.equality_is_exact-4.ensures.bind))
     (sum_exact _ _ (field_exact _ (c.equality_is_exact-4.ensures.close))
     (sum_exact _ _ (field_exact _ (c.equality_is_exact-4.ensures.describe))
     (sum_exact _ _ (field_exact _ (c.equality_is_exact-4.ensures.execute))
-    (sum_exact _ _ (field_exact _ (c.equality_is_exact-4.ensures.flush))
-    (sum_exact _ _ (field_exact _ (c.equality_is_exact-4.ensures.sync))
-    (sum_exact _ _ (field_exact _ (c.equality_is_exact.ensures.terminate))
+    (sum_exact _ _ (field_exact _ (c.empty_equality_is_exact-2.ensures.request))
+    (sum_exact _ _ (field_exact _ (c.empty_equality_is_exact-3.ensures.request))
+    (sum_exact _ _ (field_exact _ (c.empty_equality_is_exact-4.ensures.request))
     (sum_exact _ _ (field_exact _ (c.equality_is_exact-5.ensures.copy_data))
-    (sum_exact _ _ (field_exact _ (c.equality_is_exact-5.ensures.copy_done))
+    (sum_exact _ _ (field_exact _ (c.empty_equality_is_exact-5.ensures.request))
     (sum_exact _ _ (field_exact _ (c.equality_is_exact-5.ensures.copy_fail))
     (none_exact (λ x y. absurd x)))))))))))))))))))

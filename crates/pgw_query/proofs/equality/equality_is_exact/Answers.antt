@@ -6,8 +6,6 @@ use Rattle.pgw_query.specs.declared.simplequery.Query.{Query}
 use Rattle.pgw_query.specs.declared.response.TransactionStatus.TheVariants as status
 use Rattle.pgw_query.specs.declared.response.ReadyForQuery.{ReadyForQuery}
 use Rattle.pgw_query.specs.declared.response.CommandComplete.{CommandComplete}
-use Rattle.pgw_query.specs.declared.response.ErrorResponse.{ErrorResponse}
-use Rattle.pgw_query.specs.declared.response.NoticeResponse.{NoticeResponse}
 use Rattle.pgw_query.specs.declared.notification.NotificationResponse.{NotificationResponse}
 use Rattle.pgw_query.specs.declared.data.FieldDescription.{FieldDescription}
 use Rattle.pgw_query.specs.declared.data.RowDescription.{RowDescription}
@@ -18,7 +16,7 @@ use Rattle.pgw_query.specs.declared.pg_type.PgType.TheVariants as types
 use Rattle.pgw_query.specs.declared.field_info.FieldFormat.TheVariants as formats
 use Rattle.pgw_query.specs.declared.field_info.FieldInfo.{FieldInfo}
 use Rattle.pgw_query.specs.declared.row_error.SqlFault.TheVariants as sql
-use Rattle.pgw_wire.proofs.EqualLaws.{both_exact, made_exact, one_exact, option_exact}
+use Rattle.pgw_wire.proofs.EqualLaws.{both_exact, made_exact, option_exact}
 use Rattle.pgw_query.proofs.equality.equality_is_exact.Goals as goal
 
 pub returns-clause-query : goal.returns-clause-query
@@ -39,19 +37,6 @@ returns-clause-ready_for_query c =
 pub returns-clause-command_complete : goal.returns-clause-command_complete
 returns-clause-command_complete c =
     made_exact {Y = CommandComplete} (λ x. x.tag) (λ p. record { tag = p }) (λ x. refl) _ bytes_decides
-
-pub returns-clause-empty_query_response : goal.returns-clause-empty_query_response
-returns-clause-empty_query_response c = one_exact (λ x y. refl)
-
-pub returns-clause-error_response : goal.returns-clause-error_response
-returns-clause-error_response c =
-    made_exact {Y = ErrorResponse} (λ x. x.fields) (λ p. record { fields = p }) (λ x. refl) _
-    (pointwise_decides (both_exact _ _ Decides-eqb bytes_decides))
-
-pub returns-clause-notice_response : goal.returns-clause-notice_response
-returns-clause-notice_response c =
-    made_exact {Y = NoticeResponse} (λ x. x.fields) (λ p. record { fields = p }) (λ x. refl) _
-    (pointwise_decides (both_exact _ _ Decides-eqb bytes_decides))
 
 pub returns-clause-notification_response : goal.returns-clause-notification_response
 returns-clause-notification_response c =
@@ -91,9 +76,6 @@ pub returns-clause-data_row : goal.returns-clause-data_row
 returns-clause-data_row c =
     made_exact {Y = DataRow} (λ x. (x.payload, x.field_count)) (λ p. record { payload = p.0; field_count = p.1 })
     (λ x. refl) _ (both_exact _ _ bytes_decides Decides-int_eq)
-
-pub returns-clause-no_data : goal.returns-clause-no_data
-returns-clause-no_data c = one_exact (λ x y. refl)
 
 pub returns-clause-tag : goal.returns-clause-tag
 returns-clause-tag c =

@@ -1,4 +1,4 @@
-use Rattle.pgw_query.proofs.RowLaws.{query, command_complete, empty_query_response, ready_for_query, error_response, notice_response, notification_response, parameter_description, row_description, data_row, no_data}
+use Rattle.pgw_query.proofs.RowLaws.{query, command_complete, ready_for_query, info_response, notification_response, parameter_description, row_description, data_row}
 use Rattle.pgw_query.proofs.laws.rows_are_exact.Goals as goal
 
 pub returns : goal.returns
@@ -6,13 +6,9 @@ returns c =
     record {
       query = query;
       command_complete = command_complete;
-      empty_query_response = empty_query_response;
       ready_for_query =
           ready_for_query;
-      error_response =
-          error_response;
-      notice_response =
-          notice_response;
+      info_response = info_response;
       notification_response =
           notification_response;
       parameter_description =
@@ -20,5 +16,4 @@ returns c =
       row_description =
           row_description;
       data_row = data_row;
-      no_data = no_data;
     }

@@ -2,7 +2,7 @@ use Rattle.std.proofs.Common.{◌∷◌, [], None, lit<}
 use Rattle.pgw_wire.specs.Counted.{counted16, is_too_long}
 use Rattle.pgw_wire.specs.Writing.{text, u32, has_zero, refused_if}
 use Rattle.pgw_wire.proofs.WrittenLaws.{text_written, typed_written, unrefused}
-use Rattle.pgw_query.specs.Rows.{SpellsQuery, SpellsCommandComplete, SpellsReadyForQuery, SpellsErrorResponse, SpellsNoticeResponse, SpellsNotificationResponse, SpellsParameterDescription, SpellsRowDescription, SpellsDataRow, status_byte, codes, codes_fault, is_refused, row_description, data_row, notification_response, is_notification_refused}
+use Rattle.pgw_query.specs.Rows.{SpellsQuery, SpellsCommandComplete, SpellsReadyForQuery, SpellsNotificationResponse, SpellsParameterDescription, SpellsRowDescription, SpellsDataRow, status_byte, codes, codes_fault, is_refused, row_description, data_row, notification_response, is_notification_refused, SpellsInfoResponse}
 use Rattle.pgw_query.proofs.RowsWritten.{status_written, codes_written, notification_response_written, parameter_description_written, row_description_written, data_row_written}
 use Rattle.pgw_query.proofs.laws.what_is_written_is_spelled.Goals as goal
 
@@ -17,12 +17,9 @@ returns c = record {
   ready_for_query =
       λ m g is. typed_written 90 30000 SpellsReadyForQuery m None (status_byte m.status ∷ []) g (lit< tt) is
       (λ fine. status_written m.status);
-  error_response =
-      λ m g sound is. typed_written 69 2147483647 SpellsErrorResponse m (codes_fault m.fields) (codes m.fields) g
-      (lit< tt) is (λ fine. codes_written m.fields sound fine);
-  notice_response =
-      λ m g sound is. typed_written 78 2147483647 SpellsNoticeResponse m (codes_fault m.fields) (codes m.fields) g
-      (lit< tt) is (λ fine. codes_written m.fields sound fine);
+  info_response =
+      λ byte m g sound is. typed_written byte 2147483647 SpellsInfoResponse m (codes_fault m.fields)
+      (codes m.fields) g (lit< tt) is (λ fine. codes_written m.fields sound fine);
   notification_response =
       λ m g sound is. typed_written 65 2147483647 SpellsNotificationResponse m
       (refused_if (is_notification_refused m)) (notification_response m) g (lit< tt) is
