@@ -13,7 +13,7 @@ use Rattle.pgw_wire.proofs.MessageLaws.{some_is, made_of}
 use Rattle.pgw_wire.specs.Empty.{empty_request_of, empty_response_of}
 use Rattle.pgw_wire.proofs.EmptyLaws.{empty_request, empty_response}
 use Rattle.pgw_startup.specs.Login.{authentication_of, parameter_status_of, backend_key_data_of, negotiate_of, SpellsAuthentication, SpellsParameterStatus, SpellsBackendKeyData, SpellsNegotiate}
-use Rattle.pgw_startup.specs.Response.{ssl_response_of, gss_enc_response_of}
+use Rattle.pgw_startup.specs.Response.{encryption_response_of}
 use Rattle.pgw_query.specs.Rows.{ready_for_query_of, command_complete_of, notification_response_of, parameter_description_of, row_description_of, data_row_of, SpellsCommandComplete, SpellsReadyForQuery, SpellsNotificationResponse, SpellsParameterDescription, SpellsRowDescription, SpellsDataRow, SpellsInfoResponse, info_response_of}
 use Rattle.pgw_copy.specs.Rows.{copy_data_of, copy_fail_of, copy_response_of, SpellsCopyData, SpellsCopyFail, SpellsCopyResponse}
 use Rattle.pgw_startup.proofs.LoginLaws.{authentication, parameter_status, backend_key_data, negotiate}
@@ -125,10 +125,10 @@ module _ (ctx : DecodeContext) (m : PgWireBackendMessage) (bytes rest : List ℕ
   all_parts : backend_front ctx bytes ≡ Ok (Some (m, rest)) → Found
   unfolding backend_front IsTyped SpellsIn
   all_parts e = elim (chosen ctx.awaiting_backend_ssl_response _ _ _ e) [
-    | inl h ↦ as_found backend.SslResponse (wire_front OneByte 10000 (ssl_response_of ctx) bytes)
+    | inl h ↦ as_found backend.SslResponse (wire_front OneByte 10000 (encryption_response_of 83 ctx) bytes)
         (λ x e. let c = (ssl_response ctx).found bytes x rest e in (c.0, c.1, (h.0, c.2))) h.1
     | inr t ↦ elim (chosen ctx.awaiting_backend_gss_response _ _ _ t.1) [
-      | inl h ↦ as_found backend.GssEncResponse (wire_front OneByte 10000 (gss_enc_response_of ctx) bytes)
+      | inl h ↦ as_found backend.GssEncResponse (wire_front OneByte 10000 (encryption_response_of 71 ctx) bytes)
           (λ x e. let c = (gss_enc_response ctx).found bytes x rest e in (c.0, c.1, ((t.0, h.0), c.2))) h.1
       | inr h ↦ typed_part (t.0, h.0) h.1
     ]
@@ -177,11 +177,11 @@ pub backend_again : (ctx : DecodeContext) (m : PgWireBackendMessage) (g rest : L
     → backend_front ctx (g ++ rest) ≡ Ok (Some (m, rest))
 unfolding SpellsIn IsTyped backend_front
 backend_again ctx (backend.SslResponse m) g rest h =
-    let read : wire_front OneByte 10000 (ssl_response_of ctx) (g ++ rest) ≡ Ok (Some (m, rest)) =
+    let read : wire_front OneByte 10000 (encryption_response_of 83 ctx) (g ++ rest) ≡ Ok (Some (m, rest)) =
     (ssl_response ctx).only m g rest h.1 in
     when ctx.awaiting_backend_ssl_response _ _ h.0 ∙ ap (as_one_of backend.SslResponse) read
 backend_again ctx (backend.GssEncResponse m) g rest h =
-    let read : wire_front OneByte 10000 (gss_enc_response_of ctx) (g ++ rest) ≡ Ok (Some (m, rest)) =
+    let read : wire_front OneByte 10000 (encryption_response_of 71 ctx) (g ++ rest) ≡ Ok (Some (m, rest)) =
     (gss_enc_response ctx).only m g rest h.1 in
     unless ctx.awaiting_backend_ssl_response _ _ h.0.0 ∙ when ctx.awaiting_backend_gss_response _ _ h.0.1
     ∙ ap (as_one_of backend.GssEncResponse) read

@@ -14,7 +14,7 @@ use Rattle.pgw_wire.specs.Empty.{empty_request_of, empty_response_of}
 use Rattle.pgw_backend.specs.declared.backend.PgWireBackendMessage.{PgWireBackendMessage}
 use Rattle.pgw_backend.specs.declared.backend.PgWireBackendMessage.TheVariants as backend
 use Rattle.pgw_startup.specs.Login.{authentication_of, parameter_status_of, backend_key_data_of, negotiate_of}
-use Rattle.pgw_startup.specs.Response.{ssl_response_of, gss_enc_response_of}
+use Rattle.pgw_startup.specs.Response.{encryption_response_of}
 use Rattle.pgw_query.specs.Rows.{ready_for_query_of, command_complete_of, notification_response_of, parameter_description_of, row_description_of, data_row_of, info_response_of}
 use Rattle.pgw_copy.specs.Rows.{copy_data_of, copy_fail_of, copy_response_of}
 use Rattle.pgw_backend.specs.Backend.{backend_by, backend_typed_front, backend_front}
@@ -136,9 +136,9 @@ pub backend_stable : (ctx : DecodeContext) → Stable 1 (backend_front ctx)
 unfolding backend_front
 backend_stable ctx =
     stable_choice 1 ctx.awaiting_backend_ssl_response _ _
-    (stable_as backend.SslResponse 1 (wire_front OneByte 10000 (ssl_response_of ctx))
-    (front_stable OneByte 10000 (ssl_response_of ctx) tt))
+    (stable_as backend.SslResponse 1 (wire_front OneByte 10000 (encryption_response_of 83 ctx))
+    (front_stable OneByte 10000 (encryption_response_of 83 ctx) tt))
     (stable_choice 1 ctx.awaiting_backend_gss_response _ _
-    (stable_as backend.GssEncResponse 1 (wire_front OneByte 10000 (gss_enc_response_of ctx))
-    (front_stable OneByte 10000 (gss_enc_response_of ctx) tt))
+    (stable_as backend.GssEncResponse 1 (wire_front OneByte 10000 (encryption_response_of 71 ctx))
+    (front_stable OneByte 10000 (encryption_response_of 71 ctx) tt))
     (typed_stable ctx))

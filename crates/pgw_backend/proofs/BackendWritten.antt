@@ -13,7 +13,7 @@ use Rattle.pgw_wire.specs.Writing.{text, u32, has_zero, refused_if}
 use Rattle.pgw_wire.specs.Keys.{key_fault}
 use Rattle.pgw_wire.proofs.WrittenLaws.{appended, text_written, unrefused, encoded_parts, typed_written}
 use Rattle.pgw_startup.specs.Login.{SpellsAuthentication, SpellsParameterStatus, SpellsBackendKeyData, SpellsNegotiate, authentication, authentication_fault, parameter_status, parameter_status_fault, backend_key_data, negotiate, is_options_refused}
-use Rattle.pgw_startup.specs.Response.{ssl_byte, gss_byte}
+use Rattle.pgw_startup.specs.Response.{answer_byte}
 use Rattle.pgw_startup.proofs.LoginWritten.{authentication_written, parameter_status_written, backend_key_data_written, negotiate_written}
 use Rattle.pgw_startup.proofs.ResponseLaws.{ssl_written, gss_written}
 use Rattle.pgw_query.specs.Rows.{status_byte, codes, codes_fault, is_refused, row_description, data_row, notification_response, is_notification_refused, SpellsCommandComplete, SpellsReadyForQuery, SpellsNotificationResponse, SpellsParameterDescription, SpellsRowDescription, SpellsDataRow, SpellsInfoResponse}
@@ -31,11 +31,11 @@ pub backend_written : (version : ProtocolVersion) (m : PgWireBackendMessage) (g 
     → Suits version m → backend_encoding m ≡ Ok g → Spelled version m g
 unfolding backend_encoding
 backend_written version (backend.SslResponse m) g sound suits is =
-    subst (λ (f : List ℕ). SpellsNat w8 (ssl_byte m) f)
-    (sym (encoded_parts OneByte 10000 None (ssl_byte m ∷ []) g (lit< tt) is).2) (ssl_written m)
+    subst (λ (f : List ℕ). SpellsNat w8 (answer_byte 83 m) f)
+    (sym (encoded_parts OneByte 10000 None (answer_byte 83 m ∷ []) g (lit< tt) is).2) (ssl_written m)
 backend_written version (backend.GssEncResponse m) g sound suits is =
-    subst (λ (f : List ℕ). SpellsNat w8 (gss_byte m) f)
-    (sym (encoded_parts OneByte 10000 None (gss_byte m ∷ []) g (lit< tt) is).2) (gss_written m)
+    subst (λ (f : List ℕ). SpellsNat w8 (answer_byte 71 m) f)
+    (sym (encoded_parts OneByte 10000 None (answer_byte 71 m ∷ []) g (lit< tt) is).2) (gss_written m)
 backend_written version (backend.Authentication m) g sound suits is =
     typed_written 82 30000 SpellsAuthentication m (authentication_fault m) (authentication m) g (lit< tt) is
     (λ fine. authentication_written m sound fine)

@@ -9,7 +9,7 @@ use Rattle.pgw_wire.specs.Counted.{counted16, is_too_long}
 use Rattle.pgw_wire.specs.Writing.{text, u32, has_zero, refused_if}
 use Rattle.pgw_wire.specs.Keys.{key_fault}
 use Rattle.pgw_startup.specs.Login.{authentication_of, parameter_status_of, backend_key_data_of, negotiate_of, authentication, authentication_fault, parameter_status, parameter_status_fault, backend_key_data, negotiate, is_options_refused}
-use Rattle.pgw_startup.specs.Response.{ssl_response_of, gss_enc_response_of, ssl_byte, gss_byte}
+use Rattle.pgw_startup.specs.Response.{encryption_response_of, answer_byte}
 use Rattle.pgw_query.specs.Rows.{ready_for_query_of, command_complete_of, notification_response_of, parameter_description_of, row_description_of, data_row_of, status_byte, codes, codes_fault, row_description, is_refused, data_row, notification_response, is_notification_refused, info_response_of}
 use Rattle.pgw_copy.specs.Rows.{copy_data_of, copy_fail_of, copy_response_of, formats, is_miscounted}
 use Rattle.pgw_backend.specs.declared.backend.PgWireBackendMessage.{PgWireBackendMessage}
@@ -101,15 +101,16 @@ unfoldable pub backend_front : DecodeContext → List ℕ
     → Result (Option (PgWireBackendMessage × List ℕ)) PgWireError
 backend_front ctx bytes =
     if ctx.awaiting_backend_ssl_response then as_one_of backend.SslResponse
-    (wire_front OneByte SMALL_LIMIT (ssl_response_of ctx) bytes)
+    (wire_front OneByte SMALL_LIMIT (encryption_response_of 83 ctx) bytes)
     else (if ctx.awaiting_backend_gss_response then as_one_of backend.GssEncResponse
-    (wire_front OneByte SMALL_LIMIT (gss_enc_response_of ctx) bytes)
+    (wire_front OneByte SMALL_LIMIT (encryption_response_of 71 ctx) bytes)
     else backend_typed_front ctx bytes)
 
 -- the one spelling that is written of a message, or why there is none
 unfoldable pub backend_encoding : PgWireBackendMessage → Result (List ℕ) PgWireError
-backend_encoding (backend.SslResponse m) = encoded OneByte SMALL_LIMIT None (ssl_byte m ∷ [])
-backend_encoding (backend.GssEncResponse m) = encoded OneByte SMALL_LIMIT None (gss_byte m ∷ [])
+backend_encoding (backend.SslResponse m) = encoded OneByte SMALL_LIMIT None (answer_byte 83 m ∷ [])
+backend_encoding (backend.GssEncResponse m) = encoded OneByte SMALL_LIMIT None
+    (answer_byte 71 m ∷ [])
 backend_encoding (backend.Authentication m) =
     encoded (Typed 82) SMALL_BACKEND_LIMIT (authentication_fault m) (authentication m)
 backend_encoding (backend.ParameterStatus m) =

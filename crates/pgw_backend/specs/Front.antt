@@ -7,7 +7,7 @@ use Rattle.pgw_backend.specs.declared.backend.PgWireBackendMessage.{PgWireBacken
 use Rattle.pgw_backend.specs.declared.backend.PgWireBackendMessage.TheVariants as backend
 use Rattle.pgw_wire.specs.Formats.{SpellsTyped, NoBody}
 use Rattle.pgw_startup.specs.Login.{SpellsAuthentication, SpellsParameterStatus, SpellsBackendKeyData, SpellsNegotiate}
-use Rattle.pgw_startup.specs.Response.{SpellsSslResponse, SpellsGssEncResponse}
+use Rattle.pgw_startup.specs.Response.{SpellsEncryptionResponse}
 use Rattle.pgw_query.specs.Rows.{SpellsCommandComplete, SpellsReadyForQuery, SpellsNotificationResponse, SpellsParameterDescription, SpellsRowDescription, SpellsDataRow, SpellsInfoResponse}
 use Rattle.pgw_copy.specs.Rows.{SpellsCopyData, SpellsCopyFail, SpellsCopyResponse}
 use Rattle.pgw_backend.specs.Backend.{backend_front}
@@ -40,8 +40,8 @@ front version bytes = front_of bytes (backend_front (typed_phase version) bytes)
 
 -- these bytes, and no others, spell the message: its type byte, a length that is at most the row's limit, and its fields; or the one byte of an answer
 abbrev pub Spelled : ProtocolVersion → PgWireBackendMessage → List ℕ → Type 0
-Spelled version (backend.SslResponse m) = SpellsSslResponse m
-Spelled version (backend.GssEncResponse m) = SpellsGssEncResponse m
+Spelled version (backend.SslResponse m) = SpellsEncryptionResponse m
+Spelled version (backend.GssEncResponse m) = SpellsEncryptionResponse m
 Spelled version (backend.Authentication m) =
     SpellsTyped 82 SMALL_BACKEND_LIMIT SpellsAuthentication m
 Spelled version (backend.ParameterStatus m) =

@@ -14,6 +14,7 @@ use pgw_query::{
     MESSAGE_TYPE_BYTE_EMPTY_QUERY_RESPONSE, MESSAGE_TYPE_BYTE_ERROR_RESPONSE,
     MESSAGE_TYPE_BYTE_NO_DATA, MESSAGE_TYPE_BYTE_NOTICE_RESPONSE,
 };
+use pgw_startup::response::{BYTE_ACCEPT_GSS_ENC, BYTE_ACCEPT_SSL};
 use pgw_wire::empty::empty_equality_is_exact;
 
 /// Two values are equal exactly where they are the same.
@@ -21,6 +22,8 @@ pub fn equality_is_exact()
     ensures { IsExact ⟦<PgWireBackendMessage as PartialEq>⟧.eq }
 {
     pgw_startup::equality::equality_is_exact();
+    pgw_startup::equality::encryption_equality_is_exact::<BYTE_ACCEPT_SSL>();
+    pgw_startup::equality::encryption_equality_is_exact::<BYTE_ACCEPT_GSS_ENC>();
     pgw_query::equality::equality_is_exact();
     pgw_query::equality::info_equality_is_exact::<MESSAGE_TYPE_BYTE_ERROR_RESPONSE>();
     pgw_query::equality::info_equality_is_exact::<MESSAGE_TYPE_BYTE_NOTICE_RESPONSE>();

@@ -6,8 +6,7 @@ use Rattle.pgw_types.specs.declared.context.ProtocolVersion.TheVariants.{PROTOCO
 use Rattle.pgw_types.specs.declared.context.DecodeContext.{DecodeContext}
 use Rattle.pgw_types.specs.Versions.{first_context}
 use Rattle.pgw_startup.specs.Negotiate.{negotiated_version}
-use Rattle.pgw_startup.specs.declared.response.SslResponse.TheVariants as ssl
-use Rattle.pgw_startup.specs.declared.response.GssEncResponse.TheVariants as gss
+use Rattle.pgw_startup.specs.declared.response.EncryptionResponse.TheVariants as answer
 use Rattle.pgw_startup.specs.declared.negotiate.NegotiateProtocolVersion.{NegotiateProtocolVersion}
 use Rattle.pgw_backend.specs.declared.backend.PgWireBackendMessage.{PgWireBackendMessage as Backend}
 use Rattle.pgw_backend.specs.declared.backend.PgWireBackendMessage.TheVariants as backend
@@ -79,6 +78,6 @@ behind_server m c = c
 
 -- the server goes on encrypted, and what follows cannot be read
 abbrev pub is_accepted : Backend → Bool
-is_accepted (backend.SslResponse ssl.Accept) = true
-is_accepted (backend.GssEncResponse gss.Accept) = true
+is_accepted (backend.SslResponse answer.Accept) = true
+is_accepted (backend.GssEncResponse answer.Accept) = true
 is_accepted m = false

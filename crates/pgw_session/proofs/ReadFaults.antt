@@ -16,7 +16,7 @@ use Rattle.pgw_wire.specs.Keys.{is_no_key, key_by, key_of}
 use Rattle.pgw_wire.specs.Framing.{length_frame, frame, framed, wire_front, stated_length, as_one_of}
 use Rattle.pgw_wire.specs.Empty.{empty_request_of, empty_response_of}
 use Rattle.pgw_startup.specs.Login.{by_code, authentication_of, parameter_status_of, backend_key_data_of, negotiate_of}
-use Rattle.pgw_startup.specs.Response.{ssl_reply, gss_reply, ssl_response_of, gss_enc_response_of}
+use Rattle.pgw_startup.specs.Response.{answer_of_byte, encryption_response_of}
 use Rattle.pgw_query.specs.Rows.{status_of_byte, ready_for_query_of, command_complete_of, codes_at, field_at, row_description_of, data_row_of, parameter_description_of, notification_response_of, info_response_of}
 use Rattle.pgw_copy.specs.Rows.{copy_data_of, copy_fail_of, columns_at, copy_response_of}
 use Rattle.pgw_backend.specs.declared.backend.PgWireBackendMessage.{PgWireBackendMessage}
@@ -187,16 +187,11 @@ negotiate_fine ctx bytes =
     (pair_fine (int_at w32) (counted_at w32 1 text_at) (int_fine w32)
     (counted_list_fine w32 1 text_at text_fine)) bytes)
 
-ssl_fine : (ctx : DecodeContext) → IsFine (ssl_response_of ctx)
-unfolding ssl_response_of ssl_reply
-ssl_fine ctx bytes =
-    all_fine _ (tried_fine ssl_reply (nat_at w8) (λ b. either (b == 83) _ _ tt (either (b == 78) _ _ tt tt))
-    (nat_fine w8) bytes)
-
-gss_fine : (ctx : DecodeContext) → IsFine (gss_enc_response_of ctx)
-unfolding gss_enc_response_of gss_reply
-gss_fine ctx bytes =
-    all_fine _ (tried_fine gss_reply (nat_at w8) (λ b. either (b == 71) _ _ tt (either (b == 78) _ _ tt tt))
+encryption_fine : (accept : ℕ) (ctx : DecodeContext) → IsFine (encryption_response_of accept ctx)
+unfolding encryption_response_of answer_of_byte
+encryption_fine accept ctx bytes =
+    all_fine _ (tried_fine (answer_of_byte accept) (nat_at w8)
+    (λ b. either (b == accept) _ _ tt (either (b == 78) _ _ tt tt))
     (nat_fine w8) bytes)
 
 ready_fine : (ctx : DecodeContext) → IsFine (ready_for_query_of ctx)
@@ -383,9 +378,9 @@ backend_fine : (ctx : DecodeContext) → IsFine (backend_front ctx)
 unfolding backend_front
 backend_fine ctx bytes =
     either ctx.awaiting_backend_ssl_response _ _
-    (as_one_fine _ OneByte tt 10000 (ssl_response_of ctx) (ssl_fine ctx) bytes)
+    (as_one_fine _ OneByte tt 10000 (encryption_response_of 83 ctx) (encryption_fine 83 ctx) bytes)
     (either ctx.awaiting_backend_gss_response _ _
-    (as_one_fine _ OneByte tt 10000 (gss_enc_response_of ctx) (gss_fine ctx) bytes)
+    (as_one_fine _ OneByte tt 10000 (encryption_response_of 71 ctx) (encryption_fine 71 ctx) bytes)
     (either (nat_lt (length bytes) 2) _ _ tt (backend_by_fine (slice_index bytes 0) ctx bytes)))
 
 bad_fine : (bytes : List ℕ) (r : Result (Option (PgWireBackendMessage × List ℕ)) PgWireError) (why : PgWireError)

@@ -1,7 +1,7 @@
 -- The one byte of an answer: what is read is what is spelled.
 use Rattle.std.proofs.Common.{◌≡◌, inl, inr, ℕ, false, eqb, List, [], ◌∷◌, ◌++◌, length, Some, Result, Ok, refl, sym, ap, subst, ◌∙◌, arith, lit<}
 use Rattle.std.specs.Int.{w8}
-use Rattle.std.proofs.lemmas.Bool.{eqb-true, ne_eqb}
+use Rattle.std.proofs.lemmas.Bool.{eqb-true, eq-eqb, ne_eqb}
 use Rattle.pgw_types.specs.declared.error.PgWireError.{PgWireError}
 use Rattle.pgw_types.specs.declared.context.DecodeContext.{DecodeContext}
 use Rattle.pgw_wire.specs.declared.framing.Framing.TheVariants.{OneByte}
@@ -12,11 +12,9 @@ use Rattle.pgw_wire.proofs.Laws.{bind_ok, ok_is, chosen, tried_reads}
 use Rattle.pgw_wire.proofs.FieldLaws.{nat_reads}
 use Rattle.pgw_wire.proofs.FrameLaws.{reads_last, all_found, all_again}
 use Rattle.pgw_wire.proofs.MessageLaws.{some_is}
-use Rattle.pgw_startup.specs.declared.response.SslResponse.{SslResponse}
-use Rattle.pgw_startup.specs.declared.response.SslResponse.TheVariants as ssl
-use Rattle.pgw_startup.specs.declared.response.GssEncResponse.{GssEncResponse}
-use Rattle.pgw_startup.specs.declared.response.GssEncResponse.TheVariants as gss
-use Rattle.pgw_startup.specs.Response.{ssl_byte, gss_byte, ssl_reply, gss_reply, ssl_response_of, gss_enc_response_of, SpellsSslResponse, SpellsGssEncResponse, IsReply}
+use Rattle.pgw_startup.specs.declared.response.EncryptionResponse.{EncryptionResponse}
+use Rattle.pgw_startup.specs.declared.response.EncryptionResponse.TheVariants as answer
+use Rattle.pgw_startup.specs.Response.{answer_byte, answer_of_byte, encryption_response_of, SpellsEncryptionResponse, IsReply}
 
 -- ---- one byte
 
@@ -54,60 +52,50 @@ module _ {M : Type 0} (p : List ℕ → Result (M × List ℕ) PgWireError) (P :
   is_reply : IsReply (λ body. all_of (p body)) P
   is_reply = record { found = reply_found; only = λ m g rest h. reply_again m g rest (one m g h) h }
 
-ssl_back : (b : ℕ) (m : SslResponse) → ssl_reply b ≡ Ok m → ssl_byte m ≡ b
-unfolding ssl_reply
-ssl_back b m e =
-    elim (chosen (eqb b 83) _ _ _ e) [
-      | inl h ↦ subst (λ (n : SslResponse). ssl_byte n ≡ b) (ok_is ssl.Accept m h.1) (sym (eqb-true _ _ h.0))
-      | inr h ↦ elim (chosen (eqb b 78) _ _ _ h.1) [
-        | inl h ↦ subst (λ (n : SslResponse). ssl_byte n ≡ b) (ok_is ssl.Refuse m h.1) (sym (eqb-true _ _ h.0))
-        | inr h ↦ absurd cc
+-- the byte of an answer, where acceptance has another byte than refusal
+module _ (accept : ℕ) (differs : eqb 78 accept ≡ false) where
+  answer_back : (b : ℕ) (m : EncryptionResponse accept) → answer_of_byte accept b ≡ Ok m
+      → answer_byte accept m ≡ b
+  unfolding answer_of_byte
+  answer_back b m e =
+      elim (chosen (eqb b accept) _ _ _ e) [
+        | inl h ↦ subst (λ (n : EncryptionResponse accept). answer_byte accept n ≡ b)
+            (ok_is answer.Accept m h.1) (sym (eqb-true _ _ h.0))
+        | inr h ↦ elim (chosen (eqb b 78) _ _ _ h.1) [
+          | inl h ↦ subst (λ (n : EncryptionResponse accept). answer_byte accept n ≡ b)
+              (ok_is answer.Refuse m h.1) (sym (eqb-true _ _ h.0))
+          | inr h ↦ absurd cc
+        ]
       ]
-    ]
 
-ssl_again : (m : SslResponse) → ssl_reply (ssl_byte m) ≡ Ok m
-unfolding ssl_reply
-ssl_again ssl.Accept = refl
-ssl_again ssl.Refuse = refl
+  answer_again : (m : EncryptionResponse accept) → answer_of_byte accept (answer_byte accept m) ≡ Ok m
+  unfolding answer_of_byte
+  answer_again answer.Accept = rw (eq-eqb accept accept refl) refl
+  answer_again answer.Refuse = rw differs refl
 
-ssl_reads : ReadsLast (tried_at ssl_reply (nat_at w8)) (λ m. SpellsNat w8 (ssl_byte m))
-ssl_reads =
-    reads_last _ _ (tried_reads ssl_reply ssl_byte (nat_at w8) (SpellsNat w8) ssl_back ssl_again (nat_reads w8))
+  answer_reads : ReadsLast (tried_at (answer_of_byte accept) (nat_at w8))
+      (λ (m : EncryptionResponse accept). SpellsNat w8 (answer_byte accept m))
+  answer_reads =
+      reads_last _ _ (tried_reads (answer_of_byte accept) (answer_byte accept) (nat_at w8) (SpellsNat w8)
+      answer_back answer_again (nat_reads w8))
 
-pub ssl_written : (m : SslResponse) → SpellsNat w8 (ssl_byte m) (ssl_byte m ∷ [])
-ssl_written ssl.Accept = (refl, refl)
-ssl_written ssl.Refuse = (refl, refl)
+  pub encryption_response : (ctx : DecodeContext)
+      → IsReply (encryption_response_of accept ctx) SpellsEncryptionResponse
+  unfolding encryption_response_of
+  encryption_response ctx =
+      is_reply (tried_at (answer_of_byte accept) (nat_at w8))
+      (λ (m : EncryptionResponse accept). SpellsNat w8 (answer_byte accept m)) answer_reads (λ m g h. h.0)
 
-pub ssl_response : (ctx : DecodeContext) → IsReply (ssl_response_of ctx) SpellsSslResponse
-unfolding ssl_response_of
-ssl_response ctx =
-    is_reply (tried_at ssl_reply (nat_at w8)) (λ m. SpellsNat w8 (ssl_byte m)) ssl_reads (λ m g h. h.0)
+pub ssl_response : (ctx : DecodeContext) → IsReply (encryption_response_of 83 ctx) SpellsEncryptionResponse
+ssl_response = encryption_response 83 refl
 
-gss_back : (b : ℕ) (m : GssEncResponse) → gss_reply b ≡ Ok m → gss_byte m ≡ b
-unfolding gss_reply
-gss_back b m e =
-    elim (chosen (eqb b 71) _ _ _ e) [
-      | inl h ↦ subst (λ (n : GssEncResponse). gss_byte n ≡ b) (ok_is gss.Accept m h.1) (sym (eqb-true _ _ h.0))
-      | inr h ↦ elim (chosen (eqb b 78) _ _ _ h.1) [
-        | inl h ↦ subst (λ (n : GssEncResponse). gss_byte n ≡ b) (ok_is gss.Refuse m h.1) (sym (eqb-true _ _ h.0))
-        | inr h ↦ absurd cc
-      ]
-    ]
+pub gss_enc_response : (ctx : DecodeContext) → IsReply (encryption_response_of 71 ctx) SpellsEncryptionResponse
+gss_enc_response = encryption_response 71 refl
 
-gss_again : (m : GssEncResponse) → gss_reply (gss_byte m) ≡ Ok m
-unfolding gss_reply
-gss_again gss.Accept = refl
-gss_again gss.Refuse = refl
+pub ssl_written : (m : EncryptionResponse 83) → SpellsNat w8 (answer_byte 83 m) (answer_byte 83 m ∷ [])
+ssl_written answer.Accept = (refl, refl)
+ssl_written answer.Refuse = (refl, refl)
 
-gss_reads : ReadsLast (tried_at gss_reply (nat_at w8)) (λ m. SpellsNat w8 (gss_byte m))
-gss_reads =
-    reads_last _ _ (tried_reads gss_reply gss_byte (nat_at w8) (SpellsNat w8) gss_back gss_again (nat_reads w8))
-
-pub gss_written : (m : GssEncResponse) → SpellsNat w8 (gss_byte m) (gss_byte m ∷ [])
-gss_written gss.Accept = (refl, refl)
-gss_written gss.Refuse = (refl, refl)
-
-pub gss_enc_response : (ctx : DecodeContext) → IsReply (gss_enc_response_of ctx) SpellsGssEncResponse
-unfolding gss_enc_response_of
-gss_enc_response ctx =
-    is_reply (tried_at gss_reply (nat_at w8)) (λ m. SpellsNat w8 (gss_byte m)) gss_reads (λ m g h. h.0)
+pub gss_written : (m : EncryptionResponse 71) → SpellsNat w8 (answer_byte 71 m) (answer_byte 71 m ∷ [])
+gss_written answer.Accept = (refl, refl)
+gss_written answer.Refuse = (refl, refl)

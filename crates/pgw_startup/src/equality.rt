@@ -6,7 +6,7 @@ use crate::backend_key_data::BackendKeyData;
 use crate::negotiate::NegotiateProtocolVersion;
 use crate::parameter_status::ParameterStatus;
 use crate::password::{Password, PasswordMessageFamily};
-use crate::response::{GssEncResponse, SslResponse};
+use crate::response::EncryptionResponse;
 use crate::sasl::{SASLInitialResponse, SASLResponse};
 use crate::startup::Startup;
 use pgw_wire::equality;
@@ -16,8 +16,6 @@ pub fn equality_is_exact()
     ensures authentication { IsExact ⟦<Authentication as PartialEq>⟧.eq }
     ensures parameter_status { IsExact ⟦<ParameterStatus as PartialEq>⟧.eq }
     ensures negotiate_protocol_version { IsExact ⟦<NegotiateProtocolVersion as PartialEq>⟧.eq }
-    ensures ssl_response { IsExact ⟦<SslResponse as PartialEq>⟧.eq }
-    ensures gss_enc_response { IsExact ⟦<GssEncResponse as PartialEq>⟧.eq }
     ensures password { IsExact ⟦<Password as PartialEq>⟧.eq }
     ensures sasl_initial_response { IsExact ⟦<SASLInitialResponse as PartialEq>⟧.eq }
     ensures sasl_response { IsExact ⟦<SASLResponse as PartialEq>⟧.eq }
@@ -27,3 +25,8 @@ pub fn equality_is_exact()
 {
     equality::equality_is_exact();
 }
+
+/// Two answers to a request for encryption are equal exactly where they are the same.
+pub fn encryption_equality_is_exact<const ACCEPT: u8>()
+    ensures { IsExact ⟦<EncryptionResponse<ACCEPT> as PartialEq>⟧.eq }
+{}

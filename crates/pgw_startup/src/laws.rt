@@ -3,7 +3,7 @@ ghost use Rattle.std.specs.Prelude.{◌≡◌, ◌<◌, ◌≤◌, ◌+◌, ◌*
 ghost use Rattle.pgw_types.specs.declared.context.ProtocolVersion.TheVariants.{PROTOCOL3_0, PROTOCOL3_2};
 ghost use Rattle.pgw_types.specs.declared.context.DecodeContext.{DecodeContext as TheContext};
 ghost use Rattle.pgw_startup.specs.Negotiate.{negotiated_version};
-ghost use Rattle.pgw_startup.specs.Response.{ssl_response_of, gss_enc_response_of, SpellsSslResponse, SpellsGssEncResponse, IsReply};
+ghost use Rattle.pgw_startup.specs.Response.{encryption_response_of, SpellsEncryptionResponse, IsReply};
 
 /// A server may send the minor version alone or with the major one: both are read alike.
 pub fn both_forms_are_read_alike()
@@ -16,6 +16,8 @@ pub fn both_forms_are_read_alike()
 
 /// What is read of the one byte that answers a request for encryption is spelled so, and what is spelled so is read, whatever follows it.
 pub fn replies_are_exact()
-    ensures ssl { (ctx : TheContext) → IsReply (ssl_response_of ctx) SpellsSslResponse }
-    ensures gss { (ctx : TheContext) → IsReply (gss_enc_response_of ctx) SpellsGssEncResponse }
+    ensures ssl { (ctx : TheContext) →
+        IsReply (encryption_response_of 83 ctx) SpellsEncryptionResponse }
+    ensures gss { (ctx : TheContext) →
+        IsReply (encryption_response_of 71 ctx) SpellsEncryptionResponse }
 {}

@@ -1,7 +1,7 @@
 //! What a server answers to a request for encryption.
 ghost use Rattle.std.specs.Prelude.{◌∷◌, [], None};
 ghost use Rattle.pgw_wire.specs.declared.framing.Framing.TheVariants.{OneByte};
-ghost use Rattle.pgw_startup.specs.Response.{ssl_response_of, gss_enc_response_of, ssl_byte, gss_byte};
+ghost use Rattle.pgw_startup.specs.Response.{encryption_response_of, answer_byte};
 ghost use Rattle.pgw_wire.specs.declared.limits.TheConstants.{SMALL_LIMIT};
 
 use pgw_types::context::DecodeContext;
@@ -16,15 +16,28 @@ use pgw_wire::reader::FieldReader;
 use pgw_wire::writer::Writer;
 use std::alloc::Global;
 
-/// Whether the server goes on under TLS (the byte that answers an SSLRequest).
+/// Whether the server goes on under the encryption that was asked for: the one byte that answers an SSLRequest or a
+/// GSSENCRequest.
 #[derive(Clone, Copy, Debug, PartialEq, Eq)]
-pub enum SslResponse {
+pub enum EncryptionResponse<const ACCEPT: u8> {
     Accept,
     Refuse,
 }
 
-impl SslResponse {
-    pub const BYTE_ACCEPT: u8 = b'S';
+/// What a server that goes on under TLS says.
+pub const BYTE_ACCEPT_SSL: u8 = b'S';
+
+/// What a server that goes on under GSSAPI encryption says.
+pub const BYTE_ACCEPT_GSS_ENC: u8 = b'G';
+
+/// What answers an SSLRequest.
+pub type SslResponse = EncryptionResponse<BYTE_ACCEPT_SSL>;
+
+/// What answers a GSSENCRequest.
+pub type GssEncResponse = EncryptionResponse<BYTE_ACCEPT_GSS_ENC>;
+
+impl<const ACCEPT: u8> EncryptionResponse<ACCEPT> {
+    pub const BYTE_ACCEPT: u8 = ACCEPT;
 
     pub const BYTE_REFUSE: u8 = b'N';
 
@@ -32,14 +45,14 @@ impl SslResponse {
     pub const MESSAGE_LENGTH: usize = 1;
 }
 
-impl Message for SslResponse {
+impl<const ACCEPT: u8> Message for EncryptionResponse<ACCEPT> {
     ghost row_framing = { OneByte };
 
     ghost limit = { SMALL_LIMIT };
 
-    ghost reading = { ssl_response_of };
+    ghost reading = { encryption_response_of ACCEPT };
 
-    ghost written = { λ m. ssl_byte m ∷ [] };
+    ghost written = { λ m. answer_byte ACCEPT m ∷ [] };
 
     ghost fault = { λ m. None };
 
@@ -52,7 +65,7 @@ impl Message for SslResponse {
     }
 
     fn message_length(&self) -> usize {
-        SslResponse::MESSAGE_LENGTH
+        EncryptionResponse::<ACCEPT>::MESSAGE_LENGTH
     }
 
     fn refusal(&self) -> Option<PgWireError> {
@@ -61,107 +74,34 @@ impl Message for SslResponse {
 
     fn put_body(&self, out: &mut Writer) -> Result<(), OutOfMemory> {
         let byte = match self {
-            SslResponse::Accept => SslResponse::BYTE_ACCEPT,
-            SslResponse::Refuse => SslResponse::BYTE_REFUSE,
+            EncryptionResponse::Accept => ACCEPT,
+            EncryptionResponse::Refuse => b'N',
         };
         out.put_slice(&[byte])
     }
 
-    #[tactic(auto, unfolding(crate::specs::Response::ssl_response_of, crate::specs::Response::ssl_reply))]
+    #[tactic(auto, unfolding(crate::specs::Response::encryption_response_of, crate::specs::Response::answer_of_byte))]
     fn decode_body(
         _alloc: Global,
         body: &Octets,
         _ctx: &DecodeContext,
-    ) -> PgWireResult<SslResponse> {
+    ) -> PgWireResult<EncryptionResponse<ACCEPT>> {
         let mut reader = FieldReader::new(body);
         let byte = reader.take_u8()?;
-        let response = match byte {
-            b'S' => SslResponse::Accept,
-            b'N' => SslResponse::Refuse,
-            _ => return Err(PgWireError::InvalidMessageType(byte)),
+        let response = if byte == ACCEPT {
+            EncryptionResponse::Accept
+        } else if byte == b'N' {
+            EncryptionResponse::Refuse
+        } else {
+            return Err(PgWireError::InvalidMessageType(byte));
         };
         reader.finish()?;
         Ok(response)
     }
 }
 
-impl Duplicate for SslResponse {
-    fn duplicate(&self) -> Result<SslResponse, OutOfMemory> {
-        Ok(*self)
-    }
-}
-
-/// Whether the server goes on under GSSAPI encryption (the byte that answers a GSSENCRequest).
-#[derive(Clone, Copy, Debug, PartialEq, Eq)]
-pub enum GssEncResponse {
-    Accept,
-    Refuse,
-}
-
-impl GssEncResponse {
-    pub const BYTE_ACCEPT: u8 = b'G';
-
-    pub const BYTE_REFUSE: u8 = b'N';
-
-    /// The whole message is this many bytes.
-    pub const MESSAGE_LENGTH: usize = 1;
-}
-
-impl Message for GssEncResponse {
-    ghost row_framing = { OneByte };
-
-    ghost limit = { SMALL_LIMIT };
-
-    ghost reading = { gss_enc_response_of };
-
-    ghost written = { λ m. gss_byte m ∷ [] };
-
-    ghost fault = { λ m. None };
-
-    fn framing() -> Framing {
-        Framing::OneByte
-    }
-
-    fn max_message_length() -> usize {
-        SMALL_LIMIT
-    }
-
-    fn message_length(&self) -> usize {
-        GssEncResponse::MESSAGE_LENGTH
-    }
-
-    fn refusal(&self) -> Option<PgWireError> {
-        None
-    }
-
-    fn put_body(&self, out: &mut Writer) -> Result<(), OutOfMemory> {
-        let byte = match self {
-            GssEncResponse::Accept => GssEncResponse::BYTE_ACCEPT,
-            GssEncResponse::Refuse => GssEncResponse::BYTE_REFUSE,
-        };
-        out.put_slice(&[byte])
-    }
-
-    #[tactic(auto, unfolding(crate::specs::Response::gss_enc_response_of, crate::specs::Response::gss_reply))]
-    fn decode_body(
-        _alloc: Global,
-        body: &Octets,
-        _ctx: &DecodeContext,
-    ) -> PgWireResult<GssEncResponse> {
-        let mut reader = FieldReader::new(body);
-        let byte = reader.take_u8()?;
-        let response = match byte {
-            b'G' => GssEncResponse::Accept,
-            b'N' => GssEncResponse::Refuse,
-            _ => return Err(PgWireError::InvalidMessageType(byte)),
-        };
-        reader.finish()?;
-        Ok(response)
-    }
-}
-
-impl Duplicate for GssEncResponse {
-    fn duplicate(&self) -> Result<GssEncResponse, OutOfMemory> {
+impl<const ACCEPT: u8> Duplicate for EncryptionResponse<ACCEPT> {
+    fn duplicate(&self) -> Result<EncryptionResponse<ACCEPT>, OutOfMemory> {
         Ok(*self)
     }
 }

@@ -2,8 +2,7 @@ use Rattle.std.proofs.Common.{◌≡◌, ◌⊎◌, inl, inr, refl}
 use Rattle.pgw_backend.specs.declared.backend.PgWireBackendMessage.{PgWireBackendMessage}
 use Rattle.pgw_backend.specs.declared.backend.PgWireBackendMessage.TheVariants as backend
 use Rattle.pgw_backend.specs.contracts.backend.PgWireBackendMessage.{as_values}
-use Rattle.pgw_startup.specs.declared.response.SslResponse.{SslResponse}
-use Rattle.pgw_startup.specs.declared.response.GssEncResponse.{GssEncResponse}
+use Rattle.pgw_startup.specs.declared.response.EncryptionResponse.{EncryptionResponse}
 use Rattle.pgw_startup.specs.declared.authentication.Authentication.{Authentication}
 use Rattle.pgw_startup.specs.declared.parameter_status.ParameterStatus.{ParameterStatus}
 use Rattle.pgw_startup.specs.declared.backend_key_data.BackendKeyData.{BackendKeyData}
@@ -26,8 +25,8 @@ use Rattle.pgw_backend.proofs.equality.equality_is_exact.Goals as goal
 -- a message as one of its kinds
 abbrev Kinds : Type 0
 Kinds =
-    (SslResponse × Unit {0})
-    ⊎ ((GssEncResponse × Unit {0}) ⊎
+    (EncryptionResponse 83 × Unit {0})
+    ⊎ ((EncryptionResponse 71 × Unit {0}) ⊎
     ((Authentication × Unit {0}) ⊎
     ((ParameterStatus × Unit {0}) ⊎
     ((BackendKeyData × Unit {0}) ⊎
@@ -139,8 +138,8 @@ from_kind-as_values (backend.CopyBothResponse m) = refl
 pub returns : goal.returns
 returns c =
     made_exact as_values from_kind from_kind-as_values _
-    (sum_exact _ _ (field_exact _ (c.equality_is_exact.ensures.ssl_response))
-    (sum_exact _ _ (field_exact _ (c.equality_is_exact.ensures.gss_enc_response))
+    (sum_exact _ _ (field_exact _ (c.encryption_equality_is_exact.ensures))
+    (sum_exact _ _ (field_exact _ (c.encryption_equality_is_exact-2.ensures))
     (sum_exact _ _ (field_exact _ (c.equality_is_exact.ensures.authentication))
     (sum_exact _ _ (field_exact _ (c.equality_is_exact.ensures.parameter_status))
     (sum_exact _ _ (field_exact _ (c.equality_is_exact.ensures.backend_key_data))

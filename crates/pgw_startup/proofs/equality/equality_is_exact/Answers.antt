@@ -6,8 +6,6 @@ use Rattle.pgw_startup.specs.declared.authentication.Authentication.{Authenticat
 use Rattle.pgw_startup.specs.contracts.authentication.Authentication.{as_values}
 use Rattle.pgw_startup.specs.declared.parameter_status.ParameterStatus.{ParameterStatus}
 use Rattle.pgw_startup.specs.declared.negotiate.NegotiateProtocolVersion.{NegotiateProtocolVersion}
-use Rattle.pgw_startup.specs.declared.response.SslResponse.TheVariants as ssl
-use Rattle.pgw_startup.specs.declared.response.GssEncResponse.TheVariants as gss
 use Rattle.pgw_startup.specs.declared.password.Password.{Password}
 use Rattle.pgw_startup.specs.declared.sasl.SASLInitialResponse.{SASLInitialResponse}
 use Rattle.pgw_startup.specs.declared.sasl.SASLResponse.{SASLResponse}
@@ -62,16 +60,6 @@ returns-clause-negotiate_protocol_version c =
     made_exact {Y = NegotiateProtocolVersion} (λ x. (x.newest_minor_protocol, x.unsupported_options))
     (λ p. record { newest_minor_protocol = p.0; unsupported_options = p.1 }) (λ x. refl) _
     (both_exact _ _ Decides-int_eq (pointwise_decides bytes_decides))
-
-pub returns-clause-ssl_response : goal.returns-clause-ssl_response
-returns-clause-ssl_response c ssl.Accept ssl.Accept = (λ e. refl, λ e. refl)
-returns-clause-ssl_response c ssl.Refuse ssl.Refuse = (λ e. refl, λ e. refl)
-returns-clause-ssl_response c x y = (λ e. absurd cc, λ e. absurd cc)
-
-pub returns-clause-gss_enc_response : goal.returns-clause-gss_enc_response
-returns-clause-gss_enc_response c gss.Accept gss.Accept = (λ e. refl, λ e. refl)
-returns-clause-gss_enc_response c gss.Refuse gss.Refuse = (λ e. refl, λ e. refl)
-returns-clause-gss_enc_response c x y = (λ e. absurd cc, λ e. absurd cc)
 
 pub returns-clause-password : goal.returns-clause-password
 returns-clause-password c =
