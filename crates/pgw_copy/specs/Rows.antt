@@ -5,7 +5,7 @@ use Rattle.std.specs.List.{flat_map}
 use Rattle.std.specs.Int.{w8, w16, cast_unsigned}
 use Rattle.pgw_types.specs.declared.error.PgWireError.{PgWireError}
 use Rattle.pgw_types.specs.declared.context.DecodeContext.{DecodeContext}
-use Rattle.pgw_wire.specs.Reading.{int_at, text_at, rest_at, all_of, list_at, extended_count}
+use Rattle.pgw_wire.specs.Reading.{◌>>=◌, int_at, text_at, rest_at, all_of, list_at, extended_count}
 use Rattle.pgw_wire.specs.Formats.{Pair, made_at, SpellsText, SpellsInt, SpellsCounted, IsRest}
 use Rattle.pgw_wire.specs.Writing.{i16}
 use Rattle.pgw_copy.specs.declared.data.CopyData.{CopyData}

@@ -36,8 +36,17 @@ pub type SslResponse = EncryptionResponse<BYTE_ACCEPT_SSL>;
 /// What answers a GSSENCRequest.
 pub type GssEncResponse = EncryptionResponse<BYTE_ACCEPT_GSS_ENC>;
 
-impl<const ACCEPT: u8> EncryptionResponse<ACCEPT> {
-    pub const BYTE_ACCEPT: u8 = ACCEPT;
+impl SslResponse {
+    pub const BYTE_ACCEPT: u8 = BYTE_ACCEPT_SSL;
+
+    pub const BYTE_REFUSE: u8 = b'N';
+
+    /// The whole message is this many bytes.
+    pub const MESSAGE_LENGTH: usize = 1;
+}
+
+impl GssEncResponse {
+    pub const BYTE_ACCEPT: u8 = BYTE_ACCEPT_GSS_ENC;
 
     pub const BYTE_REFUSE: u8 = b'N';
 
@@ -65,7 +74,7 @@ impl<const ACCEPT: u8> Message for EncryptionResponse<ACCEPT> {
     }
 
     fn message_length(&self) -> usize {
-        EncryptionResponse::<ACCEPT>::MESSAGE_LENGTH
+        1
     }
 
     fn refusal(&self) -> Option<PgWireError> {
