@@ -51,24 +51,44 @@ fn number(alloc: Global, responses: Listed<Response>) -> Result<i64> {
     bail!("no row")
 }
 
-// How many things of a former lease are there.
-fn look(alloc: Global, lease: &mut Lease) -> Result<i64> {
-    match ask(lease, &Request::simple(alloc, LOOK)?)? {
+fn ask_simple(alloc: Global, lease: &mut Lease, sql: &str) -> Result<Answer> {
+    let request = Request::simple(alloc, sql)?;
+    ask(lease, &request)
+}
+
+fn number_in(alloc: Global, answer: Answer) -> Result<i64> {
+    match answer {
         Answer::Responses(responses) => number(alloc, responses),
         _ => bail!("another answer"),
     }
 }
 
+// How many things of a former lease are there.
+fn look(alloc: Global, lease: &mut Lease) -> Result<i64> {
+    let answer = ask_simple(alloc, lease, LOOK)?;
+    number_in(alloc, answer)
+}
+
+fn change(alloc: Global, lease: &mut Lease, sql: &str) -> Result<()> {
+    drop(ask_simple(alloc, lease, sql)?);
+    Ok(())
+}
+
+fn prepare(alloc: Global, lease: &mut Lease) -> Result<()> {
+    let eggs = Request::prepare(alloc, "eggs", "SELECT $1::int")?;
+    drop(ask(lease, &eggs)?);
+    Ok(())
+}
+
 /// Looks what is there of a former lease, and gives how many things that are; where nothing is, makes some.
 pub(crate) fn visit(alloc: Global, lease: &mut Lease) -> Result<i64> {
     let found = look(alloc, lease)?;
-    // They would be refused, since there are such already.
-    if found != 0 {
-        return Ok(found);
+    // They would be refused, where there are such already.
+    if found == 0 {
+        change(alloc, lease, TABLE)?;
+        change(alloc, lease, SETTING)?;
+        prepare(alloc, lease)?;
     }
-    ask(lease, &Request::simple(alloc, TABLE)?)?;
-    ask(lease, &Request::simple(alloc, SETTING)?)?;
-    ask(lease, &Request::prepare(alloc, "eggs", "SELECT $1::int")?)?;
     Ok(found)
 }
 
@@ -106,12 +126,11 @@ pub(crate) fn leave_open<R: Wait + Clock>(
     alloc: Global,
     pool: &SharedPool<ClientSocket>,
 ) -> Result<String> {
-    let begin = Request::simple(alloc, "BEGIN")?;
     let mut lease = match pool.lend(rt, patience()) {
         Ok(lease) => lease,
         Err(why) => bail!("{}", refusal(why)),
     };
-    let begun = ask(&mut lease, &begin);
+    let begun = change(alloc, &mut lease, "BEGIN");
     let given_back = pool.give_back(rt, lease);
     begun?;
     end(alloc, given_back)

@@ -1,10 +1,10 @@
 //! A client as a value: one call for each request.
 
 use pgw_client::{
-    Config, Dialer, ErrorResponse, ExecuteResult, FromSql, FromSqlText, Link, Listed, Octets,
-    PgWireClientError, PgWireClientResult, Response, Text,
+    Config, DataRow, Dialer, ErrorResponse, ExecuteResult, FromSql, FromSqlText, Link, Listed,
+    Octets, PgWireClientError, PgWireClientResult, Response, Text,
 };
-use pgw_client_calls::PgWireClient;
+use pgw_client_calls::{ExtendedQueryClient, PgWireClient};
 use pgw_handlers_default::{
     DefaultExtendedQueryHandler, DefaultSimpleQueryHandler, DefaultStartupHandler,
 };
@@ -59,7 +59,47 @@ fn refusal<L: Link>(
     }
 }
 
-// Prepares a statement with one number, and takes its rows so many at a time; gives how many came in each part.
+type Statements<'a, L> = ExtendedQueryClient<'a, L, DefaultExtendedQueryHandler>;
+
+// Prepares a statement, and binds its one value.
+fn bind_one<L: Link>(
+    alloc: Global,
+    statements: &mut Statements<'_, L>,
+    sql: &str,
+    value: &str,
+) -> PgWireClientResult<()> {
+    statements.prepare(None, sql, &[])?;
+    let mut parameters = Listed::new(alloc);
+    parameters.push(Some(Octets::from_slice(alloc, value.as_bytes())?))?;
+    statements.bind(None, None, parameters, Listed::new(alloc))
+}
+
+// How many rows came in a part, and whether it is the last.
+fn part(executed: ExecuteResult<Listed<DataRow>>) -> (u64, bool) {
+    match executed {
+        ExecuteResult::Suspended(rows) => (rows.len() as u64, false),
+        ExecuteResult::Complete(rows) => (rows.len() as u64, true),
+    }
+}
+
+// How many rows come in each part, so many at a time.
+fn parts_of<L: Link>(
+    alloc: Global,
+    statements: &mut Statements<'_, L>,
+    most: i32,
+) -> PgWireClientResult<Listed<u64>> {
+    let mut parts = Listed::new(alloc);
+    for _ in 0..u64::MAX {
+        let (rows, is_last) = part(statements.execute(None, most)?);
+        parts.push(rows)?;
+        if is_last {
+            break;
+        }
+    }
+    Ok(parts)
+}
+
+// Takes the rows of a prepared statement with one value so many at a time; gives how many came in each part.
 fn in_parts<L: Link>(
     alloc: Global,
     client: &mut PgWireClient<L>,
@@ -69,21 +109,8 @@ fn in_parts<L: Link>(
 ) -> PgWireClientResult<Listed<u64>> {
     let mut handler = DefaultExtendedQueryHandler::new();
     let mut statements = client.extended_query(&mut handler);
-    statements.prepare(None, sql, &[])?;
-    let mut parameters = Listed::new(alloc);
-    parameters.push(Some(Octets::from_slice(alloc, value.as_bytes())?))?;
-    statements.bind(None, None, parameters, Listed::new(alloc))?;
-    let mut parts = Listed::new(alloc);
-    for _ in 0..u64::MAX {
-        match statements.execute(None, most)? {
-            ExecuteResult::Suspended(rows) => parts.push(rows.len() as u64)?,
-            ExecuteResult::Complete(rows) => {
-                parts.push(rows.len() as u64)?;
-                break;
-            }
-        }
-    }
-    Ok(parts)
+    bind_one(alloc, &mut statements, sql, value)?;
+    parts_of(alloc, &mut statements, most)
 }
 
 // The number that a query gave.

@@ -173,6 +173,14 @@ impl<R: Host> Asked<R> {
         }
     }
 
+    // Once more, of a new client.
+    fn ask_again(&mut self) -> PgWireClientResult<Next>
+        ensures { IfOk result WebStepGoesOn }
+    {
+        self.was_kept = false;
+        Ok(Next::Step(self.clients.connect()?))
+    }
+
     fn answered(&mut self, answered: Answered<TcpStream>) -> PgWireClientResult<Next>
         ensures { IfOk result WebStepGoesOn }
     {
@@ -180,8 +188,7 @@ impl<R: Host> Asked<R> {
         if client.is_usable() {
             self.clients.keep(client);
         } else if self.was_kept {
-            self.was_kept = false;
-            return Ok(Next::Step(self.clients.connect()?));
+            return self.ask_again();
         }
         Ok(Next::Answer(answer?))
     }

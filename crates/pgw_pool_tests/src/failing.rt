@@ -258,12 +258,21 @@ fn check_case<R: Abort>(rt: &R, alloc: Global, setting: &Setting, case: Case) ->
     Ok(())
 }
 
-fn check_cases<R: Abort>(rt: &R, alloc: Global, cases: &[Case]) -> Result<(), Fail> {
-    let setting = new_setting(alloc)?;
+fn check_each<R: Abort>(
+    rt: &R,
+    alloc: Global,
+    setting: &Setting,
+    cases: &[Case],
+) -> Result<(), Fail> {
     for case in cases {
-        check_case(rt, alloc, &setting, *case)?;
+        check_case(rt, alloc, setting, *case)?;
     }
     Ok(())
+}
+
+fn check_cases<R: Abort>(rt: &R, alloc: Global, cases: &[Case]) -> Result<(), Fail> {
+    let setting = new_setting(alloc)?;
+    check_each(rt, alloc, &setting, cases)
 }
 
 #[test]
@@ -485,7 +494,8 @@ fn lose_and_refill<R: Abort>(rt: &R, alloc: Global, setting: &Setting) -> Result
 
 #[test]
 fn a_refill_that_fails_leaves_the_pool(rt: HostRuntime) -> Result<(), Fail> {
-    lose_and_refill(&rt, rt.alloc(), &new_setting(rt.alloc())?)
+    let setting = new_setting(rt.alloc())?;
+    lose_and_refill(&rt, rt.alloc(), &setting)
 }
 
 // What docs/POOL.md shows: a pool of one session without a network.
@@ -520,9 +530,14 @@ fn first_of_one(alloc: Global, setting: &Setting) -> Result<Option<Ended>, Fail>
     Ok(first_lease(started, &setting.request))
 }
 
-#[test]
-fn a_pool_runs_without_a_network(rt: HostRuntime) -> Result<(), Fail> {
-    let ended = first_of_one(rt.alloc(), &new_setting(rt.alloc())?)?;
+fn check_first<R: Abort>(rt: &R, alloc: Global, setting: &Setting) -> Result<(), Fail> {
+    let ended = first_of_one(alloc, setting)?;
     assert_eq!(rt; ended, Some(("fault", "Failed: broken", (0, 0, 1, 1))));
     Ok(())
+}
+
+#[test]
+fn a_pool_runs_without_a_network(rt: HostRuntime) -> Result<(), Fail> {
+    let setting = new_setting(rt.alloc())?;
+    check_first(&rt, rt.alloc(), &setting)
 }
