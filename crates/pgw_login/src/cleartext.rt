@@ -23,6 +23,15 @@ pub struct CleartextPassword<A> {
     auth_source: A,
 }
 
+impl<A> CleartextPassword<A> {
+    /// The method by the passwords of this source.
+    pub fn new(auth_source: A) -> CleartextPassword<A>
+        ensures { result ≡ record { auth_source = auth_source } }
+    {
+        CleartextPassword { auth_source }
+    }
+}
+
 impl<A: AuthSource> PasswordMethod for CleartextPassword<A> {
     ghost opens = { λ m. OpensCleartext };
 
@@ -69,7 +78,7 @@ impl<A, P, G> PasswordStartupHandler<CleartextPassword<A>, P, G, NoRegistry> {
           registry = record {};
         } }
     {
-        let method = CleartextPassword { auth_source };
+        let method = CleartextPassword::new(auth_source);
         PasswordStartupHandler::with_method(method, parameter_provider, generator)
     }
 }

@@ -39,7 +39,9 @@ pub use crate::negotiation::{
 };
 pub use crate::noop::{NoopHandler, NoopStartupHandler, noop_startup};
 pub use crate::outbox::{ByteOutbox, Outbox};
-pub use crate::password::{Challenge, PasswordMethod, PasswordStartupHandler, wrong_password};
+pub use crate::password::{
+    Challenge, PasswordMethod, PasswordStartupHandler, compare, wrong_password,
+};
 pub use crate::provider::{DefaultServerParameterProvider, ServerParameterProvider};
 pub use crate::registers::{Managed, NoRegistry, Registers};
 pub use crate::source::{AuthSource, LoginInfo, SecretSource};

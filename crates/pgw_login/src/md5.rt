@@ -25,6 +25,15 @@ pub struct Md5Password<A> {
     auth_source: A,
 }
 
+impl<A> Md5Password<A> {
+    /// The method by the salted texts of this source.
+    pub fn new(auth_source: A) -> Md5Password<A>
+        ensures { result ≡ record { auth_source = auth_source } }
+    {
+        Md5Password { auth_source }
+    }
+}
+
 // What a client is asked by for a password that the source keeps.
 fn challenge_of(alloc: Global, kept: &Password) -> PgWireResult<Challenge>
     ensures { (result ≡ Err NoMemory) ⊎ (result ≡ md5_challenge (Ok kept.now)) }
@@ -86,7 +95,7 @@ impl<A, P, G> PasswordStartupHandler<Md5Password<A>, P, G, NoRegistry> {
           registry = record {};
         } }
     {
-        let method = Md5Password { auth_source };
+        let method = Md5Password::new(auth_source);
         PasswordStartupHandler::with_method(method, parameter_provider, generator)
     }
 }

@@ -41,7 +41,8 @@ pub struct Challenge {
     pub kept: Option<Octets>,
 }
 
-/// How a password is asked for, and how the one that comes is checked.
+/// How a password is asked for, and how the one that comes is checked. A client must not be asked by AuthenticationOk, which
+/// would let it in.
 pub trait PasswordMethod {
     /// What a login may be opened with: what its client is asked by, or why it is not asked.
     ghost opens: { Self → Login → Result TheChallenge Refusal → Type 0 };
@@ -75,13 +76,8 @@ pub fn wrong_password(alloc: Global, login: &LoginInfo<'_>) -> PgWireError
     }
 }
 
-// Whether the text is the one that it is compared with, byte for byte.
-pub(crate) fn compare(
-    alloc: Global,
-    login: &LoginInfo<'_>,
-    text: &str,
-    kept: &[u8],
-) -> PgWireResult<()>
+/// Ok where the text is the one that it is compared with, byte for byte.
+pub fn compare(alloc: Global, login: &LoginInfo<'_>, text: &str, kept: &[u8]) -> PgWireResult<()>
     ensures { (result ≡ Err NoMemory)
         ⊎ (result ≡ compared text.now (login_of login.now) kept.now) }
 {

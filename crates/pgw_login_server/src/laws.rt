@@ -74,8 +74,8 @@ pub fn a_server_accounts_for_its_bytes<H: StartupHandler>()
         Accounts (taken_in (H.means handler) begin given course way) given (sent_of course) }
 {}
 
-/// The handlers for a password let a client in only behind it: AuthenticationOk and ReadyForQuery are said in answer to a
-/// password message alone whose text is, byte for byte, what the source answered for the user of the startup message.
+/// The handlers for a password in clear text and under MD5 let a client in only behind it: AuthenticationOk and
+/// ReadyForQuery are said in answer to a password message alone whose text is, byte for byte, what the source answered for the user of the startup message.
 pub fn handlers_let_in_behind_a_password<A: AuthSource, P: ServerParameterProvider, M: Registers>()
     ensures cleartext { (source : A) (provider : P) (registry : M) → LetsInBy
         (CleartextMeans (A.answers source) (P.provides provider) (M.registers registry))

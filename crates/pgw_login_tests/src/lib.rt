@@ -9,6 +9,8 @@ mod handlers;
 #[cfg(test)]
 mod holding;
 #[cfg(test)]
+mod methods;
+#[cfg(test)]
 mod registered;
 #[cfg(test)]
 mod sasl;
