@@ -1,7 +1,7 @@
 //! A client as a value: one call for each request.
 
 use pgw_client::{
-    Config, DataRow, Dialer, ErrorResponse, ExecuteResult, FromSql, FromSqlText, Link, Listed,
+    Config, DataRows, Dialer, ErrorResponse, ExecuteResult, FromSql, FromSqlText, Link, Listed,
     Octets, PgWireClientError, PgWireClientResult, Response, Text,
 };
 use pgw_client_calls::{ExtendedQueryClient, PgWireClient};
@@ -75,7 +75,7 @@ fn bind_one<L: Link>(
 }
 
 // How many rows came in a part, and whether it is the last.
-fn part(executed: ExecuteResult<Listed<DataRow>>) -> (u64, bool) {
+fn part(executed: ExecuteResult<DataRows>) -> (u64, bool) {
     match executed {
         ExecuteResult::Suspended(rows) => (rows.len() as u64, false),
         ExecuteResult::Complete(rows) => (rows.len() as u64, true),
