@@ -1,4 +1,4 @@
-//! What holds of the messages of COPY.
+//! What holds of the messages of COPY. Those without a body have their rows from `pgw_wire::empty`.
 ghost use Rattle.std.specs.Prelude.{◌≡◌, ℕ, List, None, Ok};
 ghost use Rattle.pgw_wire.specs.declared.framing.Framing.TheVariants.{Typed};
 ghost use Rattle.pgw_wire.specs.Framing.{encoded};

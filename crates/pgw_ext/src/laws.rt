@@ -1,4 +1,4 @@
-//! What holds of the messages of the extended query.
+//! What holds of the messages of the extended query. Those without a body have their rows from `pgw_wire::empty`.
 ghost use Rattle.std.specs.Prelude.{◌≡◌, ◌∷◌, ◌++◌, ℕ, List, Ok};
 ghost use Rattle.pgw_wire.specs.declared.framing.Framing.TheVariants.{Typed};
 ghost use Rattle.pgw_wire.specs.Framing.{encoded};

@@ -1,4 +1,4 @@
-//! What holds of the messages of queries.
+//! What holds of the messages of queries. Those without a body have their rows from `pgw_wire::empty`.
 ghost use Rattle.std.specs.Prelude.{◌≡◌, ◌∷◌, [], ℕ, List, None, Ok, IsUtf8};
 ghost use Rattle.pgw_types.specs.declared.context.DecodeContext.{DecodeContext as TheContext};
 ghost use Rattle.pgw_wire.specs.declared.framing.Framing.TheVariants.{Typed};

@@ -33,11 +33,11 @@ pub use crate::field_info::{FieldFormat, FieldInfo};
 pub use crate::notification::{MESSAGE_TYPE_BYTE_NOTIFICATION_RESPONSE, NotificationResponse};
 pub use crate::pg_type::PgType;
 pub use crate::response::{
-    CommandComplete, EmptyQueryResponse, ErrorResponse, MESSAGE_TYPE_BYTE_COMMAND_COMPLETE,
-    MESSAGE_TYPE_BYTE_EMPTY_QUERY_RESPONSE, MESSAGE_TYPE_BYTE_ERROR_RESPONSE,
-    MESSAGE_TYPE_BYTE_NOTICE_RESPONSE, MESSAGE_TYPE_BYTE_READY_FOR_QUERY, NoticeResponse,
-    READY_STATUS_FAILED_TRANSACTION_BLOCK, READY_STATUS_IDLE, READY_STATUS_TRANSACTION_BLOCK,
-    ReadyForQuery, TransactionStatus,
+    CommandComplete, EmptyQueryResponse, ErrorResponse, InfoResponse,
+    MESSAGE_TYPE_BYTE_COMMAND_COMPLETE, MESSAGE_TYPE_BYTE_EMPTY_QUERY_RESPONSE,
+    MESSAGE_TYPE_BYTE_ERROR_RESPONSE, MESSAGE_TYPE_BYTE_NOTICE_RESPONSE,
+    MESSAGE_TYPE_BYTE_READY_FOR_QUERY, NoticeResponse, READY_STATUS_FAILED_TRANSACTION_BLOCK,
+    READY_STATUS_IDLE, READY_STATUS_TRANSACTION_BLOCK, ReadyForQuery, TransactionStatus,
 };
 pub use crate::row_error::{RowError, RowResult, SqlFault};
 pub use crate::row_iter::DataRowsIter;

@@ -14,8 +14,11 @@ pub fn both_forms_are_read_alike()
         ≡ Some PROTOCOL3_2 }
 {}
 
-/// What is read of the one byte that answers a request for encryption is spelled so, and what is spelled so is read, whatever follows it.
+/// What is read of the one byte that answers a request for encryption is spelled so, and what is spelled so is read,
+/// whatever follows it, whichever byte but `N` accepts.
 pub fn replies_are_exact()
+    ensures exact { (accept : ℕ) → (accept ≡ 78 → ⊥) → (ctx : TheContext) →
+        IsReply (encryption_response_of accept ctx) SpellsEncryptionResponse }
     ensures ssl { (ctx : TheContext) →
         IsReply (encryption_response_of 83 ctx) SpellsEncryptionResponse }
     ensures gss { (ctx : TheContext) →

@@ -25,6 +25,8 @@ pub use crate::parameter_status::{MESSAGE_TYPE_BYTE_PARAMETER_STATUS, ParameterS
 pub use crate::password::{
     MESSAGE_TYPE_BYTE_PASSWORD_MESSAGE_FAMILY, Password, PasswordMessageFamily,
 };
-pub use crate::response::{EncryptionResponse, GssEncResponse, SslResponse};
+pub use crate::response::{
+    BYTE_ACCEPT_GSS_ENC, BYTE_ACCEPT_SSL, EncryptionResponse, GssEncResponse, SslResponse,
+};
 pub use crate::sasl::{SASLInitialResponse, SASLResponse, read_initial_response, read_response};
 pub use crate::startup::Startup;

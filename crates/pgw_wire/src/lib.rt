@@ -2,7 +2,8 @@
 //!
 //! To the crates of messages it promises that a reader takes just what its kind of field is spelled as, that a writer
 //! appends just that, and that a message which says its row of the message table has `decode` and `encode` by that row:
-//! the reading, the limit, the order of refusals. A refusal leaves the buffer as it was.
+//! the reading, the limit, the order of refusals. A refusal leaves the buffer as it was. Messages whose body has no bytes
+//! stand here, for every type byte (`empty`).
 #![tactic(auto)]
 
 pub mod buffer;
