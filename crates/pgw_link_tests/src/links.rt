@@ -15,6 +15,7 @@ use pgw_types::text::Text;
 use std::alloc::Global;
 use std::io;
 use std::io::{ErrorKind, Read, Write};
+use std::process::Abort;
 use std::test::Fail;
 
 fn numbers(alloc: Global, items: &[u64]) -> Result<Listed<u64>, Fail> {
@@ -46,20 +47,31 @@ const READS: &[(usize, &[u64], [usize; 4])] = &[
     (1000, &[1, 4], [9, 3, 1, 9]),
 ];
 
+// A link to a server that says four bytes.
+fn speaking(alloc: Global, cut: usize, fails: &[u64]) -> Result<MemoryLink, Fail> {
+    let server = Octets::from_slice(alloc, b"wxyz")?;
+    let fails = numbers(alloc, fails)?;
+    Ok(MemoryLink::new(alloc, server, cut.max(1), fails, Listed::new(alloc)))
+}
+
+// What four reads answer, and how many bytes were written.
+fn read_from(link: &mut MemoryLink) -> ([usize; 4], usize) {
+    (reads(link), link.written().len())
+}
+
+fn read_four(alloc: Global, cut: usize, fails: &[u64]) -> Result<([usize; 4], usize), Fail> {
+    let mut link = speaking(alloc, cut, fails)?;
+    Ok(read_from(&mut link))
+}
+
 #[test]
 fn memory_link_reads(rt: HostRuntime) -> Result<(), Fail> {
-    let alloc = rt.alloc();
     for (cut, fails, want) in READS {
-        let server = Octets::from_slice(alloc, b"wxyz")?;
-        let mut link = MemoryLink::new(
-            alloc,
-            server,
-            *cut,
-            numbers(alloc, fails)?,
-            Listed::new(alloc),
+        assert_eq!(rt;
+            read_four(rt.alloc(), *cut, fails)?,
+            (*want, 0),
+            "cut {cut}"
         );
-        assert_eq!(rt; reads(&mut link), *want, "cut {cut}");
-        assert!(rt; link.written().is_empty());
     }
     Ok(())
 }
@@ -90,14 +102,17 @@ fn silent(alloc: Global, cut: usize, fails: &[u64]) -> Result<MemoryLink, Fail> 
     Ok(MemoryLink::new(alloc, server, cut.max(1), Listed::new(alloc), fails))
 }
 
+fn check_writes<R: Abort>(rt: &R, link: &mut MemoryLink, want: &[usize; 3], written: &[u8]) {
+    assert_eq!(rt; writes(link, b"abc"), *want);
+    assert_eq!(rt; link.written(), written);
+    assert!(rt; link.flush().is_ok() && !link.was_short_of_memory());
+}
+
 #[test]
 fn memory_link_writes(rt: HostRuntime) -> Result<(), Fail> {
     for (cut, fails, want, written) in WRITES {
         let mut link = silent(rt.alloc(), *cut, fails)?;
-        assert_eq!(rt; writes(&mut link, b"abc"), *want, "cut {cut}");
-        assert_eq!(rt; link.written(), *written);
-        let flushed = link.flush().is_ok();
-        assert_eq!(rt; (flushed, link.was_short_of_memory()), (true, false));
+        check_writes(&rt, &mut link, want, written);
     }
     Ok(())
 }
@@ -142,13 +157,17 @@ fn sources_in_memory(rt: HostRuntime) -> Result<(), Fail> {
     Ok(())
 }
 
+fn check_sink<R: Abort>(rt: &R, sink: &mut MemorySink, wrote: &[usize; 2], written: &[u8]) {
+    assert_eq!(rt; poured(sink), *wrote);
+    assert_eq!(rt; sink.written(), written);
+}
+
 #[test]
 fn sinks_in_memory(rt: HostRuntime) -> Result<(), Fail> {
     let alloc = rt.alloc();
     for (cut, fails, _, wrote, written) in STREAMS {
         let mut sink = MemorySink::new(alloc, (*cut).max(1), numbers(alloc, fails)?);
-        assert_eq!(rt; poured(&mut sink), *wrote, "cut {cut}");
-        assert_eq!(rt; sink.written(), *written);
+        check_sink(&rt, &mut sink, wrote, written);
     }
     Ok(())
 }
@@ -220,26 +239,44 @@ const OVER_STREAMS: &[(usize, [usize; 4], [usize; 3], u64)] = &[
     (0, [0, 9, 9, 9], [9, 9, 9], 4),
 ];
 
+fn failure_kind(link: &StreamLink<Faulty>) -> Option<ErrorKind> {
+    link.failure().map(|error| error.kind())
+}
+
+fn final_kind(link: StreamLink<Faulty>) -> Option<ErrorKind> {
+    let (_, why) = link.into_failure();
+    why.map(|error| error.kind())
+}
+
+// What four reads answer, and the faults behind them.
+fn stream_reads(moves: usize) -> ([usize; 4], u64) {
+    let mut link = StreamLink::new(Faulty { calls: 0, moves });
+    (reads(&mut link), link.faults())
+}
+
+// What three writes answer, whether a flush fails, the faults behind it, and the kind of the failure.
+fn written_through(link: &mut StreamLink<Faulty>) -> ([usize; 3], bool, u64, Option<ErrorKind>) {
+    let answers = writes(link, b"abc");
+    let fails = link.flush().is_err();
+    (answers, fails, link.faults(), failure_kind(link))
+}
+
+fn check_stream_writes<R: Abort>(rt: &R, moves: usize, wrote: [usize; 3], faults: u64) {
+    let mut link = StreamLink::new(Faulty { calls: 0, moves });
+    let came = written_through(&mut link);
+    let kind = final_kind(link);
+    assert_eq!(rt;
+        came,
+        (wrote, true, faults, Some(ErrorKind::ConnectionReset))
+    );
+    assert_eq!(rt; kind, Some(ErrorKind::ConnectionReset));
+}
+
 #[test]
 fn links_over_streams(rt: HostRuntime) {
     for (moves, read, wrote, faults) in OVER_STREAMS {
-        let moves = *moves;
-        let mut link = StreamLink::new(Faulty { calls: 0, moves });
-        assert_eq!(rt; reads(&mut link), *read);
-        assert_eq!(rt; link.faults(), 3);
-        let mut link = StreamLink::new(Faulty { calls: 0, moves });
-        assert_eq!(rt; writes(&mut link, b"abc"), *wrote);
-        assert!(rt; link.flush().is_err());
-        assert_eq!(rt; link.faults(), *faults);
-        assert_eq!(rt;
-            link.failure().map(|error| error.kind()),
-            Some(ErrorKind::ConnectionReset)
-        );
-        let (_, why) = link.into_failure();
-        assert_eq!(rt;
-            why.map(|error| error.kind()),
-            Some(ErrorKind::ConnectionReset)
-        );
+        assert_eq!(rt; stream_reads(*moves), (*read, 3));
+        check_stream_writes(&rt, *moves, *wrote, *faults);
     }
 }
 
@@ -278,15 +315,22 @@ fn three_dials<D: Dialer>(dialer: &mut D, address: &Address) -> [usize; 3] {
     answers
 }
 
-#[test]
-fn dialers_in_memory(rt: HostRuntime) -> Result<(), Fail> {
-    let alloc = rt.alloc();
-    let address = Address::Host(Text::from_str(alloc, "db")?, 5432);
+fn check_dialer<R: Abort>(rt: &R, dialer: &mut MemoryDialer, address: &Address, want: &[usize; 3]) {
+    assert!(rt; dialer.closed().is_none());
+    assert_eq!(rt; three_dials(dialer, address), *want);
+    assert!(rt; dialer.closed().is_some_and(|link| link.has_failed()));
+}
+
+fn check_dials<R: Abort>(rt: &R, alloc: Global, address: &Address) -> Result<(), Fail> {
     for (fails, want) in DIALS {
         let mut dialer = dialer_of_one(alloc, fails)?;
-        assert!(rt; dialer.closed().is_none());
-        assert_eq!(rt; three_dials(&mut dialer, &address), *want);
-        assert!(rt; dialer.closed().is_some_and(|link| link.has_failed()));
+        check_dialer(rt, &mut dialer, address, want);
     }
     Ok(())
+}
+
+#[test]
+fn dialers_in_memory(rt: HostRuntime) -> Result<(), Fail> {
+    let address = Address::Host(Text::from_str(rt.alloc(), "db")?, 5432);
+    check_dials(&rt, rt.alloc(), &address)
 }
