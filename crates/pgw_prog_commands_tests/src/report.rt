@@ -55,12 +55,15 @@ dial-ms 1
 login-ms 4
 ";
 
-#[test]
-fn reports_are_told_by_lines(rt: HostRuntime) -> Result<(), Fail> {
-    let alloc = rt.alloc();
+fn report(alloc: Global) -> Result<Vec<u8>, OutOfMemory> {
     let server = Address::Ip(HostAddr::V6([0, 0, 0, 0, 0, 0, 0, 1]), 5432);
     let parameters = parameters(alloc)?;
-    let text = told(alloc, &server, &parameters)?;
+    told(alloc, &server, &parameters)
+}
+
+#[test]
+fn reports_are_told_by_lines(rt: HostRuntime) -> Result<(), Fail> {
+    let text = report(rt.alloc())?;
     assert_eq!(rt; text.as_slice(), REPORT.as_bytes());
     Ok(())
 }

@@ -1,17 +1,9 @@
 //! The command over links in memory: what is printed, the status, and what the server got.
-ghost use Rattle.std.specs.Prelude.{All, IfOk};
-ghost use Rattle.pgw_link.specs.MemoryLinks.{IsUnused};
-
-use pgw_client_places::places::Place;
-use pgw_config::config::Config;
-use pgw_link::memory::MemoryLink;
-use pgw_link::memory_dialer::MemoryDialer;
-use pgw_link::memory_stream::MemorySink;
+use crate::servers::{Setting, new_setting};
 use pgw_prog_output::printer::RowFormat;
 use pgw_prog_query::query::run_query;
 use pgw_types::listed::Listed;
 use pgw_types::memory::OutOfMemory;
-use pgw_types::octets::Octets;
 use pgw_types::text::Text;
 use std::alloc::Global;
 use std::process::Abort;
@@ -102,105 +94,61 @@ const CASES: &[Case] = &[
     ),
 ];
 
-fn link_to(alloc: Global, server: &[u8]) -> Result<MemoryLink, OutOfMemory>
-    ensures { IfOk result IsUnused }
-{
-    let server = Octets::from_slice(alloc, server)?;
-    Ok(MemoryLink::new(alloc, server, 30, Listed::new(alloc), Listed::new(alloc)))
-}
-
-fn links_to(alloc: Global, servers: &[&[u8]]) -> Result<Listed<MemoryLink>, OutOfMemory>
-    ensures { IfOk result (All IsUnused) }
-{
-    let mut links = Listed::new(alloc);
-    for server in servers {
-        links.push(link_to(alloc, server)?)?;
-    }
-    Ok(links)
-}
-
-fn place(alloc: Global, text: &str) -> Result<Place, Fail> {
-    let Ok(config) = Config::parse(alloc, text) else {
-        return Err(Fail::new(format_args!("no configuration")));
-    };
-    Ok(Place {
-        config,
-        nonce: [0; 18],
-    })
-}
-
-// A place for each server.
-fn places(alloc: Global, text: &str, servers: &[&[u8]]) -> Result<Listed<Place>, Fail> {
-    let mut places = Listed::new(alloc);
-    for _ in servers {
-        places.push(place(alloc, text)?)?;
-    }
-    Ok(places)
-}
-
-fn queries(alloc: Global) -> Result<Listed<Text>, Fail> {
+fn queries(alloc: Global) -> Result<Listed<Text>, OutOfMemory> {
     let mut queries = Listed::new(alloc);
     queries.push(Text::from_str(alloc, "TABLE a")?)?;
     queries.push(Text::from_str(alloc, "TABLE b")?)?;
     Ok(queries)
 }
 
-fn one(alloc: Global, number: u64) -> Result<Listed<u64>, Fail> {
-    let mut numbers = Listed::new(alloc);
-    numbers.push(number)?;
-    Ok(numbers)
-}
-
-fn check<R: Abort>(rt: &R, alloc: Global, case: Case) -> Result<(), Fail> {
-    let (text, servers, format, write, printed, wanted) = case;
-    let mut dialer = MemoryDialer::new(links_to(alloc, servers)?, Listed::new(alloc));
-    let places = places(alloc, text, servers)?;
-    let queries = queries(alloc)?;
-    let mut output = MemorySink::new(alloc, 1000, one(alloc, write)?);
-    let status = run_query(
+fn ran(alloc: Global, format: RowFormat, queries: &[Text], setting: &mut Setting) -> u8 {
+    run_query(
         alloc,
         format,
-        places.as_slice(),
-        queries.as_slice(),
-        &mut output,
-        &mut MemorySink::new(alloc, 1000, Listed::new(alloc)),
-        &mut dialer,
-    );
+        setting.places.as_slice(),
+        queries,
+        &mut setting.output,
+        &mut setting.errors,
+        &mut setting.dialer,
+    )
+}
+
+fn check_output<R: Abort>(rt: &R, setting: &Setting, status: u8, printed: &str, wanted: u8) {
     assert_eq!(rt; status, wanted);
-    assert_eq!(rt; output.written(), printed.as_bytes());
+    assert_eq!(rt; setting.output.written(), printed.as_bytes());
+}
+
+fn check_each<R: Abort>(rt: &R, alloc: Global, queries: &[Text]) -> Result<(), Fail> {
+    for (text, servers, format, failing_write, printed, wanted) in CASES {
+        let mut setting = new_setting(alloc, text, servers, *failing_write)?;
+        let status = ran(alloc, *format, queries, &mut setting);
+        check_output(rt, &setting, status, printed, *wanted);
+    }
     Ok(())
 }
 
 #[test]
 fn queries_are_answered(rt: HostRuntime) -> Result<(), Fail> {
-    for case in CASES {
-        check(&rt, rt.alloc(), *case)?;
-    }
-    Ok(())
+    let queries = queries(rt.alloc())?;
+    check_each(&rt, rt.alloc(), queries.as_slice())
 }
 
 // What the server got: a startup message of 18 bytes, both queries and Terminate.
+const SENT: &[u8] = b"Q\0\0\0\x0cTABLE a\0Q\0\0\0\x0cTABLE b\0X\0\0\0\x04";
+
+fn sent(alloc: Global, queries: &[Text]) -> Result<(u8, bool), Fail> {
+    let mut setting = new_setting(alloc, ANY, &[ANSWERS], 0)?;
+    let status = ran(alloc, RowFormat::Csv, queries, &mut setting);
+    Ok((status, setting.was_sent(SENT)))
+}
+
+fn sent_as_it_is(alloc: Global) -> Result<(u8, bool), Fail> {
+    let queries = queries(alloc)?;
+    sent(alloc, queries.as_slice())
+}
+
 #[test]
 fn queries_are_sent_as_they_are(rt: HostRuntime) -> Result<(), Fail> {
-    let alloc = rt.alloc();
-    let mut dialer = MemoryDialer::new(links_to(alloc, &[ANSWERS])?, Listed::new(alloc));
-    let places = places(alloc, ANY, &[ANSWERS])?;
-    let queries = queries(alloc)?;
-    let status = run_query(
-        alloc,
-        RowFormat::Csv,
-        places.as_slice(),
-        queries.as_slice(),
-        &mut MemorySink::new(alloc, 1000, Listed::new(alloc)),
-        &mut MemorySink::new(alloc, 1000, Listed::new(alloc)),
-        &mut dialer,
-    );
-    let sent = match dialer.closed() {
-        Some(link) => link
-            .written()
-            .ends_with(b"Q\0\0\0\x0cTABLE a\0Q\0\0\0\x0cTABLE b\0X\0\0\0\x04"),
-        None => false,
-    };
-    assert_eq!(rt; (status, sent), (0, true));
+    assert_eq!(rt; sent_as_it_is(rt.alloc())?, (0, true));
     Ok(())
 }

@@ -1,5 +1,0 @@
-//! Tests of the command `query`.
-#![tactic(auto)]
-
-#[cfg(test)]
-mod session;
