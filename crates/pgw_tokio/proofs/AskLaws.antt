@@ -17,7 +17,7 @@ use Rattle.pgw_session.specs.declared.types.Answer.{Answer}
 use Rattle.pgw_session.specs.declared.types.Request.{Request}
 use Rattle.pgw_session.specs.Input.{Input}
 use Rattle.pgw_tokio_moving.specs.Calls.{Call, Ended, Trail}
-use Rattle.pgw_tokio_moving.specs.Future.{CameTo, moved_of}
+use Rattle.pgw_tokio_moving.specs.Future.{CameTo, BoxCameTo, moved_of}
 use Rattle.pgw_tokio_moving.specs.Moving.{Mover, held_in, Stops as Ends_by}
 use Rattle.pgw_tokio_moving.specs.declared.engine.Turn.TheVariants as turn
 use Rattle.pgw_tokio_moving.specs.declared.exchange.Exchange.{Exchange}
@@ -322,31 +322,34 @@ module _ {S : Type 0} (reader : AsyncRead.Ghosts S) (writer : AsyncWrite.Ghosts 
       subst (ClientStands new.engine) (ap (λ (h : Mover S ClientEngine). h.turn) d.2 ∙ d.1) stands
   behind_at (stop.Fault e) mid new last stops stands = tt
 
-  pub behind_some : (o : Option (Box (Exchange S ClientEngine) Global)) (moved : Moved S ClientEngine)
-      → IsSomeAnd o (λ b. CameTo reader writer client_members (held_in b.value) moved)
-      → ClientStandsBehind moved.engine moved.stop
+  pub behind_some : (o : Option (Box (Exchange S ClientEngine) Global)) (moved : BoxedMoved S ClientEngine)
+      → IsSomeAnd o (λ b. BoxCameTo reader writer client_members (held_in b.value) moved)
+      → ClientStandsBehind moved.exchange.value.engine moved.stop
   behind_some None moved came = absurd came
   behind_some (Some b) moved came =
-      let ran = came.ran in
-      subst (λ (e : ClientEngine). ClientStandsBehind e moved.stop) (sym came.engine_is)
-      (behind_at moved.stop ran.mid came.last ran.last ran.stops came.stands)
+      let ran = came.came.ran in
+      subst (λ (e : ClientEngine). ClientStandsBehind e moved.stop) (sym came.came.engine_is)
+      (behind_at moved.stop ran.mid came.came.last ran.last ran.stops came.came.stands)
 
-  asks_some : (o : Option (Box (Exchange S ClientEngine) Global)) (moved : Moved S ClientEngine)
+  asks_some : (o : Option (Box (Exchange S ClientEngine) Global)) (moved : BoxedMoved S ClientEngine)
       (answered : Answered S) (old : AsyncClient S) (q : Request) (is_usable : Bool)
-      → IsSomeAnd o (λ b. CameTo reader writer client_members (held_in b.value) moved)
+      → IsSomeAnd o (λ b. BoxCameTo reader writer client_members (held_in b.value) moved)
       → Decides is_usable (IsUsable old) → IsSomeAnd o (λ b. IsAboutToAsk is_usable old q (held_in b.value))
-      → IsSomeAnd o (λ b. b.value.engine.fault ≡ fault_in old) → stream_in answered.client ≡ moved.stream
-      → RequestAnswers moved.engine.client moved.engine.refusal moved.stop (push_in answered.client)
-      answered.answer → fault_in answered.client ≡ fault_after moved.stop moved.engine.fault
+      → IsSomeAnd o (λ b. b.value.engine.fault ≡ fault_in old)
+      → stream_in answered.client ≡ moved.exchange.value.stream
+      → RequestAnswers moved.exchange.value.engine.client moved.exchange.value.engine.refusal moved.stop
+      (push_in answered.client) answered.answer
+      → fault_in answered.client ≡ fault_after moved.stop moved.exchange.value.engine.fault
       → AsksOverStream reader writer old q answered
   asks_some None moved answered old q is_usable came decides about earlier stream answers kept = absurd came
   asks_some (Some b) moved answered old q is_usable came decides about earlier stream answers kept =
       let h = held_in b.value in
-      asks_at reader writer old q h moved answered came is_usable decides about stream answers
-      (kept ∙ ap (fault_after moved.stop) (fault_is reader writer old q h moved answered came ∙ earlier))
+      asks_at reader writer old q h (moved_of moved) answered came.came is_usable decides about stream answers
+      (kept ∙ ap (fault_after moved.stop)
+      (fault_is reader writer old q h (moved_of moved) answered came.came ∙ earlier))
 
   pub gives_by : (f : Asking S) (moved : BoxedMoved S ClientEngine) (answered : Answered S)
-      → IsSomeAnd f.moving.state (λ b. CameTo reader writer client_members (held_in b.value) (moved_of moved))
+      → IsSomeAnd f.moving.state (λ b. BoxCameTo reader writer client_members (held_in b.value) moved)
       → stream_in answered.client ≡ moved.exchange.value.stream
       → RequestAnswers moved.exchange.value.engine.client moved.exchange.value.engine.refusal moved.stop
       (push_in answered.client) answered.answer
@@ -358,6 +361,6 @@ module _ {S : Type 0} (reader : AsyncRead.Ghosts S) (writer : AsyncWrite.Ghosts 
     stream = stream;
     answers = answers;
     fault = kept;
-    asks = λ old q is. asks_some f.moving.state (moved_of moved) answered old q is.is_usable came is.decides
+    asks = λ old q is. asks_some f.moving.state moved answered old q is.is_usable came is.decides
         is.about is.fault stream answers kept;
   }

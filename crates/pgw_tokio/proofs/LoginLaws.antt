@@ -12,7 +12,7 @@ use Rattle.pgw_link.specs.Tape.{Tape, new_tape}
 use Rattle.pgw_session.specs.declared.types.Request.{Request}
 use Rattle.pgw_session.specs.Input.{Input}
 use Rattle.pgw_tokio_moving.specs.Calls.{Call, Ended, Trail}
-use Rattle.pgw_tokio_moving.specs.Future.{CameTo, moved_of}
+use Rattle.pgw_tokio_moving.specs.Future.{CameTo, BoxCameTo, moved_of}
 use Rattle.pgw_tokio_moving.specs.Moving.{Mover, held_in, Stops as Ends_by}
 use Rattle.pgw_tokio_moving.specs.declared.exchange.Exchange.{Exchange}
 use Rattle.pgw_tokio_moving.specs.declared.exchange.Stop.{Stop}
@@ -26,7 +26,7 @@ use Rattle.pgw_tokio.specs.declared.calling.ClientEngine.{ClientEngine}
 use Rattle.pgw_tokio.specs.declared.client.AsyncClient.{AsyncClient}
 use Rattle.pgw_tokio.specs.declared.login.LoggingIn.{LoggingIn}
 use Rattle.pgw_tokio.specs.declared.login.NotLoggedIn.{NotLoggedIn}
-use Rattle.pgw_tokio.specs.Calling.{ClientStands, ClientStandsBehind, LoginOver, client_members}
+use Rattle.pgw_tokio.specs.Calling.{LoginOver, client_members}
 use Rattle.pgw_tokio.specs.Client.{fault_in, push_in, stream_in}
 use Rattle.pgw_tokio.specs.Failing.{Fails}
 use Rattle.pgw_tokio.specs.Faults.{fault_after}
@@ -173,42 +173,25 @@ module _ {S : Type 0} (reader : AsyncRead.Ghosts S) (writer : AsyncWrite.Ghosts 
 
   -- ---- the future
 
-  behind_at : (why : Stop) (mid new : Mover S ClientEngine) (last : List Call)
-      → Ends_by reader writer client_members mid why last new → ClientStands new.engine new.turn
-      → ClientStandsBehind new.engine why
-  behind_at stop.Over mid new last stops stands = subst (ClientStands new.engine) stops.3 stands
-  behind_at stop.End mid new last stops stands =
-      let d = (stops.1).1 in
-      subst (ClientStands new.engine) (ap (λ (h : Mover S ClientEngine). h.turn) d.2 ∙ d.1) stands
-  behind_at (stop.Fault e) mid new last stops stands = tt
-
-  pub behind_some : (o : Option (Box (Exchange S ClientEngine) Global)) (moved : Moved S ClientEngine)
-      → IsSomeAnd o (λ b. CameTo reader writer client_members (held_in b.value) moved)
-      → ClientStandsBehind moved.engine moved.stop
-  behind_some None moved came = absurd came
-  behind_some (Some b) moved came =
-      let ran = came.ran in
-      subst (λ (e : ClientEngine). ClientStandsBehind e moved.stop) (sym came.engine_is)
-      (behind_at moved.stop ran.mid came.last ran.last ran.stops came.stands)
-
-  logs_some : (o : Option (Box (Exchange S ClientEngine) Global)) (moved : Moved S ClientEngine)
+  logs_some : (o : Option (Box (Exchange S ClientEngine) Global)) (moved : BoxedMoved S ClientEngine)
       (result : Result (AsyncClient S) (NotLoggedIn S))
-      → IsSomeAnd o (λ b. CameTo reader writer client_members (held_in b.value) moved)
-      → EndsLogin moved.stream moved.engine moved.stop result → (input : Input) (limit : ℕ) (first : S)
+      → IsSomeAnd o (λ b. BoxCameTo reader writer client_members (held_in b.value) moved)
+      → EndsLogin moved.exchange.value.stream moved.exchange.value.engine moved.stop result
+      → (input : Input) (limit : ℕ) (first : S)
       → IsSomeAnd o (λ b. IsAboutToLogIn input limit first (held_in b.value))
       → LogsInOverStream reader writer input limit first result
   logs_some None moved result came ends input limit first about = absurd came
   logs_some (Some b) moved result came ends input limit first about =
-      logs_at input limit first (held_in b.value) moved result about came ends
+      logs_at input limit first (held_in b.value) (moved_of moved) result about came.came ends
 
   pub gives_by : (f : LoggingIn S) (moved : BoxedMoved S ClientEngine)
       (result : Result (AsyncClient S) (NotLoggedIn S))
-      → IsSomeAnd f.moving.state (λ b. CameTo reader writer client_members (held_in b.value) (moved_of moved))
+      → IsSomeAnd f.moving.state (λ b. BoxCameTo reader writer client_members (held_in b.value) moved)
       → EndsLogin moved.exchange.value.stream moved.exchange.value.engine moved.stop result
       → GivesLogin reader writer f result
   gives_by f moved result came ends = record {
     moved = moved;
     came = came;
     ends = ends;
-    logs = logs_some f.moving.state (moved_of moved) result came ends;
+    logs = logs_some f.moving.state moved result came ends;
   }

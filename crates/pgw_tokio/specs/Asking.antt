@@ -13,7 +13,7 @@ use Rattle.pgw_session.specs.declared.types.Request.{Request}
 use Rattle.pgw_session.specs.Input.{Input}
 use Rattle.pgw_session.specs.Requests.{sends_of}
 use Rattle.pgw_tokio_moving.specs.Calls.{Call, Trail}
-use Rattle.pgw_tokio_moving.specs.Future.{CameTo, moved_of}
+use Rattle.pgw_tokio_moving.specs.Future.{BoxCameTo}
 use Rattle.pgw_tokio_moving.specs.Moving.{Mover, held_in}
 use Rattle.pgw_tokio_moving.specs.declared.moving.BoxedMoved.{BoxedMoved}
 use Rattle.pgw_client_push.specs.Calls.{IsLastAnswer, input_with_request}
@@ -124,7 +124,7 @@ module _ {S : Type 0} (reader : AsyncRead.Ghosts S) (writer : AsyncWrite.Ghosts 
   pub record GivesAnswered (f : Asking S) (answered : Answered S) : Type 0 where
     pub moved : BoxedMoved S ClientEngine
     pub came : IsSomeAnd f.moving.state
-        (λ b. CameTo reader writer client_members (held_in b.value) (moved_of moved))
+        (λ b. BoxCameTo reader writer client_members (held_in b.value) moved)
     pub stream : stream_in answered.client ≡ moved.exchange.value.stream
     pub answers : RequestAnswers moved.exchange.value.engine.client
         moved.exchange.value.engine.refusal moved.stop (push_in answered.client) answered.answer

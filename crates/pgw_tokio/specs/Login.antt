@@ -9,7 +9,7 @@ use Rattle.pgw_dialogue.specs.Dialogue.{StartCause}
 use Rattle.pgw_session.specs.Input.{Input}
 use Rattle.pgw_session.specs.Segments.{startup_message}
 use Rattle.pgw_tokio_moving.specs.Calls.{Call, Trail}
-use Rattle.pgw_tokio_moving.specs.Future.{CameTo, moved_of}
+use Rattle.pgw_tokio_moving.specs.Future.{BoxCameTo}
 use Rattle.pgw_tokio_moving.specs.Moving.{Mover, held_in}
 use Rattle.pgw_tokio_moving.specs.declared.engine.Turn.TheVariants.{More}
 use Rattle.pgw_tokio_moving.specs.declared.exchange.Stop.{Stop}
@@ -116,7 +116,7 @@ module _ {S : Type 0} (reader : AsyncRead.Ghosts S) (writer : AsyncWrite.Ghosts 
     where
       pub moved : BoxedMoved S ClientEngine
       pub came : IsSomeAnd f.moving.state
-          (λ b. CameTo reader writer client_members (held_in b.value) (moved_of moved))
+          (λ b. BoxCameTo reader writer client_members (held_in b.value) moved)
       pub ends : EndsLogin moved.exchange.value.stream moved.exchange.value.engine moved.stop result
       pub logs : (input : Input) (limit : ℕ) (first : S) → IsLoginOf input limit first f
           → LogsInOverStream reader writer input limit first result

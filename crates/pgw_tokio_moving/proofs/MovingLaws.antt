@@ -16,7 +16,8 @@ use Rattle.pgw_tokio_moving.specs.declared.engine.Engine as Engine
 use Rattle.pgw_tokio_moving.specs.declared.exchange.Stop.{Stop}
 use Rattle.pgw_tokio_moving.specs.declared.exchange.Stop.TheVariants as stop
 use Rattle.pgw_tokio_moving.specs.declared.moving.Moved.{Moved}
-use Rattle.pgw_tokio_moving.specs.Future.{CameTo}
+use Rattle.pgw_tokio_moving.specs.declared.moving.BoxedMoved.{BoxedMoved}
+use Rattle.pgw_tokio_moving.specs.Future.{CameTo, BoxCameTo, moved_of}
 use Rattle.pgw_tokio_moving.specs.declared.engine.Turn.{Turn}
 use Rattle.pgw_tokio_moving.specs.declared.engine.Turn.TheVariants.{More, Over}
 use Rattle.pgw_tokio_moving.specs.Calls.{Call, Gave, Ended, Wrote, Flushed, Waited, Unread, Unwritten, Unflushed, CallGoesOn, fault_of}
@@ -200,7 +201,7 @@ module _ {S E : Type 0} (reader : AsyncRead.Ghosts S) (writer : AsyncWrite.Ghost
       stops = r.stops;
     }
 
-    pub came_on : (a b : Mover S E) (m : Moved S E) → Went a b → CameTo reader writer engine b m
+    unfoldable pub came_on : (a b : Mover S E) (m : Moved S E) → Went a b → CameTo reader writer engine b m
         → CameTo reader writer engine a m
     came_on a b m w came = record {
       last = came.last;
@@ -209,6 +210,14 @@ module _ {S E : Type 0} (reader : AsyncRead.Ghosts S) (writer : AsyncWrite.Ghost
       stream = came.stream;
       engine_is = came.engine_is;
       out = came.out;
+    }
+
+    pub box_came_on : (a b : Mover S E) (m : BoxedMoved S E) → Went a b → BoxCameTo reader writer engine b m
+        → BoxCameTo reader writer engine a m
+    unfolding came_on
+    box_came_on a b m w later = record {
+      came = came_on a b (moved_of m) w later.came;
+      whole = later.whole;
     }
 
     -- ---- the calls

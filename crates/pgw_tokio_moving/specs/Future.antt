@@ -6,7 +6,7 @@ use Rattle.pgw_tokio_moving.specs.declared.engine.Engine as Engine
 use Rattle.pgw_tokio_moving.specs.declared.engine.Turn.{Turn}
 use Rattle.pgw_tokio_moving.specs.declared.moving.BoxedMoved.{BoxedMoved}
 use Rattle.pgw_tokio_moving.specs.declared.moving.Moved.{Moved}
-use Rattle.pgw_tokio_moving.specs.Moving.{Mover, HasSoundEngine, Ran}
+use Rattle.pgw_tokio_moving.specs.Moving.{Mover, held_in, HasSoundEngine, Ran}
 
 -- before the first call
 abbrev pub fresh_mover : {S E : Type 0} → S → E → Turn → List ℕ → Mover S E
@@ -39,3 +39,9 @@ module _ {S E : Type 0} (reader : AsyncRead.Ghosts S) (writer : AsyncWrite.Ghost
     pub stream : moved.stream ≡ last.stream
     pub engine_is : moved.engine ≡ last.engine
     pub out : moved.out.items ≡ last.out
+
+  -- as above, of an exchange on the heap, which comes back whole: what its engine answered last, and whether anything
+  -- is to be flushed, too
+  pub record BoxCameTo (held : Mover S E) (moved : BoxedMoved S E) : Type 0 where
+    pub came : CameTo held (moved_of moved)
+    pub whole : held_in moved.exchange.value ≡ came.last

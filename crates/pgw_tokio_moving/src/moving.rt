@@ -105,7 +105,7 @@ pub struct BoxedMoved<S, E> {
 }
 
 impl<S: AsyncRead + AsyncWrite, E: Engine> BoxedMoving<S, E> {
-    /// Begins with what is to be written first, and an engine that answered its turn.
+    /// Begins with what is to be written first. The exchange's turn is what its engine answered last.
     pub fn new(exchange: Box<Exchange<S, E>>) -> BoxedMoving<S, E>
         ensures { result.state ≡ Some exchange }
     {
@@ -118,7 +118,7 @@ impl<S: AsyncRead + AsyncWrite, E: Engine> BoxedMoving<S, E> {
 impl<S: AsyncRead + AsyncWrite, E: Engine> Future for BoxedMoving<S, E> {
     type Output = BoxedMoved<S, E>;
 
-    ghost use Rattle.pgw_tokio_moving.specs.Future.{CameTo, moved_of};
+    ghost use Rattle.pgw_tokio_moving.specs.Future.{BoxCameTo};
 
     ghost can_poll = { λ f. IsSomeAnd f.state (λ b. HasSoundEngine E.Engine (held_in b.value)) };
 
@@ -126,7 +126,7 @@ impl<S: AsyncRead + AsyncWrite, E: Engine> Future for BoxedMoving<S, E> {
         (λ b. WaitsFor S.AsyncRead S.AsyncWrite (held_in b.value) source) };
 
     ghost gives = { λ f moved. IsSomeAnd f.state
-        (λ b. CameTo S.AsyncRead S.AsyncWrite E.Engine (held_in b.value) (moved_of moved)) };
+        (λ b. BoxCameTo S.AsyncRead S.AsyncWrite E.Engine (held_in b.value) moved) };
 
     fn poll(&mut self, cx: &mut Context<'_>) -> Poll<BoxedMoved<S, E>> {
         let Some(exchange) = &mut self.state else {

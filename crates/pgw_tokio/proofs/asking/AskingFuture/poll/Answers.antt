@@ -1,7 +1,7 @@
 use Rattle.std.proofs.Common.{◌≡◌, rules}
 use Rattle.futures.specs.declared.task.Poll.TheVariants.{Pending, Ready}
 use Rattle.std.specs.Prelude.{IsSomeAnd}
-use Rattle.pgw_tokio_moving.specs.Future.{CameTo, moved_of}
+use Rattle.pgw_tokio_moving.specs.Future.{BoxCameTo}
 use Rattle.pgw_tokio_moving.specs.Moving.{held_in}
 use Rattle.pgw_tokio.specs.Calling.{client_members}
 use Rattle.pgw_tokio.proofs.AskLaws.{behind_some, gives_by}
@@ -13,9 +13,9 @@ answered_by-requires g c =
     let p = c.poll in
     let moved = c.in-Ready.moved in
     let is : p.result ≡ Ready moved = search rules in
-    behind_some g.S.AsyncRead g.S.AsyncWrite c.args.self.now.moving.state (moved_of moved)
+    behind_some g.S.AsyncRead g.S.AsyncWrite c.args.self.now.moving.state moved
     (on_ready (λ m. IsSomeAnd c.args.self.now.moving.state
-    (λ b. CameTo g.S.AsyncRead g.S.AsyncWrite client_members (held_in b.value) (moved_of m)))
+    (λ b. BoxCameTo g.S.AsyncRead g.S.AsyncWrite client_members (held_in b.value) m))
     p.result moved is p.ensures.value)
 
 pub returns-in-Ready-clause-value : goal.returns-in-Ready-clause-value
@@ -26,7 +26,7 @@ returns-in-Ready-clause-value g c =
     let is : p.result ≡ Ready moved = search rules in
     gives_by g.S.AsyncRead g.S.AsyncWrite c.args.self.now moved a.result
     (on_ready (λ m. IsSomeAnd c.args.self.now.moving.state
-    (λ b. CameTo g.S.AsyncRead g.S.AsyncWrite client_members (held_in b.value) (moved_of m)))
+    (λ b. BoxCameTo g.S.AsyncRead g.S.AsyncWrite client_members (held_in b.value) m))
     p.result moved is p.ensures.value) a.ensures.stream a.ensures.answers (search rules)
 
 pub returns-in-Pending-clause-same : goal.returns-in-Pending-clause-same
