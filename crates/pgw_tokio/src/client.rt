@@ -110,8 +110,8 @@ impl<S> AsyncClient<S> {
         &self.standing().secret_key
     }
 
-    /// How many bytes more it may read in all. Where there is none a request is written, and answered by ReadLimit
-    /// unless it has no spelling.
+    /// How many bytes more it may read in all. Where there is none a request of a client that can be used is written, and
+    /// answered from the bytes that were read before, or by ReadLimit where they do not hold the answer.
     pub fn room(&self) -> u64
         ensures { result ≡ push_room (push_in self.now) }
     {
@@ -130,8 +130,8 @@ impl<S> AsyncClient<S> {
 /// memory is wanting for it, nothing is written and the client can be asked again. Behind other errors it can't: ask
 /// `is_usable`.
 impl<S: AsyncRead + AsyncWrite> AsyncClient<S> {
-    /// Asks a request of any kind. An error of the server's is an answer, unless the stream ends before the server is
-    /// ready again.
+    /// Asks a request of any kind. An error of the server's is an answer, once the server is ready again; what stops the
+    /// client before that is the answer in its place.
     pub fn ask(self, request: Request) -> Asking<S>
         ensures asks { IsAskingOf self request result }
         ensures ready { CanAsk result }
