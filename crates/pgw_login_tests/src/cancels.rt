@@ -6,9 +6,11 @@ use pgw_control::cancel::CancelRequest;
 use pgw_login::cancel::{CancelHandler, DefaultCancelHandler};
 use pgw_login::noop::NoopHandler;
 use pgw_login::registers::{Managed, Registers};
+use pgw_registry::error::RegistryError;
 use pgw_registry::manager::{
     CancelToken, ConnectionGuard, ConnectionHandle, ConnectionManager, Pass,
 };
+use pgw_types::memory::OutOfMemory;
 use pgw_wire::secret_key::SecretKey;
 use std::alloc::Global;
 use std::sync::{Arc, Wait};
@@ -126,12 +128,15 @@ fn outcomes<R: Wait>(
     Some(canceled)
 }
 
-#[test]
-fn cancel_handler(rt: HostRuntime) -> Result<(), Fail> {
-    let alloc = rt.alloc();
+fn canceled<R: Wait>(rt: &R, alloc: Global) -> Result<Option<[Option<bool>; 3]>, OutOfMemory> {
     let (manager, mut pass) = ConnectionManager::new(alloc)?;
     let manager = Arc::new(alloc, manager)?;
-    let told = outcomes(&rt, alloc, &manager, &mut pass);
+    Ok(outcomes(rt, alloc, &manager, &mut pass))
+}
+
+#[test]
+fn cancel_handler(rt: HostRuntime) -> Result<(), Fail> {
+    let told = canceled(&rt, rt.alloc())?;
     assert_eq!(rt; told, Some([Some(false), Some(false), Some(true)]));
     Ok(())
 }
@@ -162,23 +167,32 @@ fn events_of<R: Wait>(
     }
 }
 
-#[test]
-fn managed_registers(rt: HostRuntime) -> Result<(), Fail> {
-    let alloc = rt.alloc();
+fn events<R: Wait>(rt: &R, alloc: Global) -> Result<Option<(u64, u64)>, OutOfMemory> {
     let (manager, pass) = ConnectionManager::new(alloc)?;
     let manager = Arc::new(alloc, manager)?;
-    let events = events_of(&rt, alloc, &manager, pass);
-    assert_eq!(rt; events, Some((1, 3)));
+    Ok(events_of(rt, alloc, &manager, pass))
+}
+
+#[test]
+fn managed_registers(rt: HostRuntime) -> Result<(), Fail> {
+    assert_eq!(rt; events(&rt, rt.alloc())?, Some((1, 3)));
     Ok(())
+}
+
+/// What a server that asks for nothing answers to a request to cancel, and how many events there were then.
+pub fn canceled_by_noop(
+    alloc: Global,
+    handler: &NoopHandler<()>,
+) -> Result<(Result<(), RegistryError>, u64), OutOfMemory> {
+    let (manager, mut pass) = ConnectionManager::new(alloc)?;
+    let answer = handler.on_cancel_request(&mut pass, request(7, 5));
+    Ok((answer, manager.events(&mut pass)))
 }
 
 // A server that asks for nothing takes a request to cancel, and cancels nothing.
 #[test]
 fn noop_cancels_nothing(rt: HostRuntime) -> Result<(), Fail> {
-    let (manager, mut pass) = ConnectionManager::new(rt.alloc())?;
-    let request = request(7, 5);
-    let handler = NoopHandler::new(());
-    assert_eq!(rt; handler.on_cancel_request(&mut pass, request), Ok(()));
-    assert_eq!(rt; manager.events(&mut pass), 0);
+    let answer = canceled_by_noop(rt.alloc(), &NoopHandler::new(()))?;
+    assert_eq!(rt; answer, (Ok(()), 0));
     Ok(())
 }

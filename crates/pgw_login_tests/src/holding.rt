@@ -3,11 +3,10 @@ ghost use Rattle.std.specs.Prelude.{◌≡◌, None};
 ghost use Rattle.pgw_login.specs.declared.state.LoginState.{LoginState as TheState};
 
 use crate::handlers::{LET_IN, WELCOMED};
-use crate::support::{OnePassword, Silent, Step, hear_all, let_go};
+use crate::support::{DRAWN, OnePassword, Silent, Step, let_go, log_in};
 use bytes::BytesMut;
 use pgw_backend::backend::PgWireBackendMessage;
 use pgw_login::cleartext::CleartextPasswordAuthStartupHandler;
-use pgw_login::client_info::DefaultClient;
 use pgw_login::handler::StartupHandler;
 use pgw_login::noop::NoopHandler;
 use pgw_login::outbox::{ByteOutbox, Outbox};
@@ -15,7 +14,6 @@ use pgw_login::state::LoginState;
 use pgw_registry::generator::{PidSeat, RandomPidSecretKeyGenerator};
 use pgw_types::error::PgWireResult;
 use pgw_types::memory::OutOfMemory;
-use pgw_types::text::Text;
 use std::alloc::Global;
 use std::process::Abort;
 use std::test::Fail;
@@ -65,24 +63,17 @@ fn sent_by<H: StartupHandler, R: Abort>(
     requires { (state : TheState) → state.seat ≡ seat → state.pass ≡ None → state.registered
         ≡ None → H.fits handler.now state }
 {
-    let mut client = DefaultClient::new(alloc, Text::new(alloc), false, ());
     let mut out = Holding {
         held: ByteOutbox::new(alloc),
         gone: BytesMut::new(alloc),
         waits: false,
     };
-    let mut state = LoginState::new([7; 18], [1; 32], seat, None);
-    let word = hear_all(alloc, handler, &mut client, &mut out, &mut state, steps);
+    let (nonce, key) = DRAWN;
+    let mut state = LoginState::new(nonce, key, seat, None);
+    let told = log_in(alloc, handler, &mut out, &mut state, steps);
     let_go(rt, state);
-    drop(client);
-    let Holding {
-        held,
-        gone,
-        waits: _,
-    } = out;
-    drop(held);
-    drop(word?);
-    Ok(gone)
+    drop(told?);
+    Ok(out.gone)
 }
 
 fn sent_in_cleartext<R: Abort>(rt: &R, alloc: Global) -> Result<BytesMut, OutOfMemory> {
@@ -106,6 +97,7 @@ fn sent_for_nothing<R: Abort>(rt: &R, alloc: Global) -> Result<BytesMut, OutOfMe
 fn all_is_sent(rt: HostRuntime) -> Result<(), Fail> {
     let in_cleartext = sent_in_cleartext(&rt, rt.alloc())?;
     assert_eq!(rt; in_cleartext.as_slice(), LET_IN);
+    drop(in_cleartext);
     let for_nothing = sent_for_nothing(&rt, rt.alloc())?;
     assert_eq!(rt; for_nothing.as_slice(), WELCOMED);
     Ok(())

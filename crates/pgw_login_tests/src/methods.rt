@@ -4,7 +4,9 @@ ghost use Rattle.pgw_login.specs.Cleartext.{OpensCleartext};
 ghost use Rattle.pgw_login.specs.Password.{compared};
 
 use crate::handlers::LET_IN;
-use crate::support::{OnePassword, Outcome, Silent, Step, compare as compare_outcome, outcome_of};
+use crate::support::{
+    DRAWN, OnePassword, Outcome, Silent, Step, compare as compare_outcome, outcome_of,
+};
 use pgw_login::{
     Challenge, CleartextPassword, LoginInfo, PasswordMethod, PasswordStartupHandler, compare,
 };
@@ -50,7 +52,7 @@ impl PasswordMethod for OneWord {
 fn by_word<R: Abort>(rt: &R, alloc: Global, steps: &[Step<'_>]) -> Result<Outcome, OutOfMemory> {
     let (generator, seat) = RandomPidSecretKeyGenerator::new(alloc)?;
     let handler = PasswordStartupHandler::with_method(OneWord, Silent, generator);
-    outcome_of(rt, alloc, &handler, seat, steps)
+    outcome_of(rt, alloc, &handler, seat, DRAWN, steps)
 }
 
 // The method of clear text, named.
@@ -58,7 +60,7 @@ fn by_source<R: Abort>(rt: &R, alloc: Global, steps: &[Step<'_>]) -> Result<Outc
     let (generator, seat) = RandomPidSecretKeyGenerator::new(alloc)?;
     let method = CleartextPassword::new(OnePassword { password: b"open" });
     let handler = PasswordStartupHandler::with_method(method, Silent, generator);
-    outcome_of(rt, alloc, &handler, seat, steps)
+    outcome_of(rt, alloc, &handler, seat, DRAWN, steps)
 }
 
 const TABLE: &[(&[Step<'static>], &str, &[u8])] = &[
@@ -80,7 +82,7 @@ const TABLE: &[(&[Step<'static>], &str, &[u8])] = &[
 fn a_method_of_its_own_lets_in(rt: HostRuntime) -> Result<(), Fail> {
     for (steps, words, sent) in TABLE {
         let outcome = by_word(&rt, rt.alloc(), steps)?;
-        compare_outcome(&rt, outcome, words, sent);
+        compare_outcome(&rt, &outcome, words, sent);
     }
     Ok(())
 }
@@ -89,7 +91,7 @@ fn a_method_of_its_own_lets_in(rt: HostRuntime) -> Result<(), Fail> {
 fn the_method_of_clear_text_lets_in(rt: HostRuntime) -> Result<(), Fail> {
     for (steps, words, sent) in TABLE {
         let outcome = by_source(&rt, rt.alloc(), steps)?;
-        compare_outcome(&rt, outcome, words, sent);
+        compare_outcome(&rt, &outcome, words, sent);
     }
     Ok(())
 }

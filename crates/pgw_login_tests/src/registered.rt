@@ -4,11 +4,11 @@ ghost use Rattle.std.specs.Arc.{arc_value};
 ghost use Rattle.pgw_login.specs.Registered.{CanRelease, IsOf};
 
 use crate::cancels::{close, is_canceled, release};
-use crate::support::{OnePassword, Outcome, Silent, Step, compare, hear_all, outcome_of};
-use bytes::BytesMut;
+use crate::support::{
+    DRAWN, OnePassword, Outcome, Silent, Step, compare, log_in, outcome_by, outcome_of,
+};
 use pgw_control::cancel::CancelRequest;
 use pgw_login::cleartext::CleartextPasswordAuthStartupHandler;
-use pgw_login::client_info::DefaultClient;
 use pgw_login::md5::Md5PasswordAuthStartupHandler;
 use pgw_login::outbox::ByteOutbox;
 use pgw_login::state::LoginState;
@@ -16,7 +16,6 @@ use pgw_registry::generator::RandomPidSecretKeyGenerator;
 use pgw_registry::manager::{ConnectionGuard, ConnectionHandle, ConnectionManager, Pass};
 use pgw_types::memory::OutOfMemory;
 use pgw_types::octets::Octets;
-use pgw_types::text::Text;
 use pgw_wire::secret_key::SecretKey;
 use std::alloc::Global;
 use std::process::Abort;
@@ -27,14 +26,9 @@ const SECRET: OnePassword = OnePassword {
     password: b"secret",
 };
 
-// What a login and its end come to: the last answer, the bytes sent; how many events there were behind the login,
-// whether its query was canceled by the pair that it was told, and how many events there were in the end.
-#[derive(Drop)]
-struct Told {
-    word: String,
-    sent: BytesMut,
-    events: (u64, Option<bool>, u64),
-}
+// How many events there were behind a login, whether its query was canceled by the pair that it was told, and how many
+// events there were in the end.
+type Events = (u64, Option<bool>, u64);
 
 // Cancels a query of a connection that has logged in, and lets the connection go.
 fn let_go<R: Abort + Wait>(
@@ -44,18 +38,12 @@ fn let_go<R: Abort + Wait>(
     handle: Option<ConnectionHandle>,
     guard: Option<ConnectionGuard>,
     request: CancelRequest,
-) -> (u64, Option<bool>, u64)
+) -> Events
     requires { IsOf (arc_value manager.now) pass × CanRelease guard pass }
 {
-    let Some(mut pass) = pass else {
-        panic!(rt; "no pass")
-    };
-    let Some(handle) = handle else {
-        panic!(rt; "no handle")
-    };
-    let Some(guard) = guard else {
-        panic!(rt; "no guard")
-    };
+    let mut pass = pass.expect(rt, "no pass");
+    let handle = handle.expect(rt, "no handle");
+    let guard = guard.expect(rt, "no guard");
     let registered = manager.events(&mut pass);
     let canceled = is_canceled(rt, manager, &mut pass, &handle, request);
     close(rt, manager, &mut pass, handle);
@@ -63,7 +51,7 @@ fn let_go<R: Abort + Wait>(
     (registered, canceled, manager.events(&mut pass))
 }
 
-// A login in clear text at a minor version of 3, over a manager.
+// A login in clear text at a minor version of 3, over a manager: what comes of it, and of its end.
 fn registered<R: Abort + Wait>(
     rt: &R,
     alloc: Global,
@@ -71,7 +59,7 @@ fn registered<R: Abort + Wait>(
     pass: Pass,
     minor: u16,
     request: CancelRequest,
-) -> Result<Told, OutOfMemory>
+) -> Result<(Outcome, Events), OutOfMemory>
     requires { pass.of ≡ arc_value manager.now }
 {
     let (generator, seat) = RandomPidSecretKeyGenerator::new(alloc)?;
@@ -79,19 +67,14 @@ fn registered<R: Abort + Wait>(
     let handler = CleartextPasswordAuthStartupHandler::new(
         SECRET, Silent, generator,
     ).with_connection_manager(owner, rt);
-    let mut client = DefaultClient::new(alloc, Text::new(alloc), false, ());
+    let (nonce, key) = DRAWN;
     let mut out = ByteOutbox::new(alloc);
-    let mut state = LoginState::new([7; 18], [1; 32], seat, Some(pass));
+    let mut state = LoginState::new(nonce, key, seat, Some(pass));
     let steps = [Step::Version(3, minor), Step::Password("secret")];
-    let word = hear_all(alloc, &handler, &mut client, &mut out, &mut state, &steps);
+    let told = log_in(alloc, &handler, &mut out, &mut state, &steps);
     let (_seat, pass, handle, guard) = state.finish();
     let events = let_go(rt, manager, pass, handle, guard, request);
-    drop(client);
-    Ok(Told {
-        word: word?,
-        sent: out.buffer,
-        events,
-    })
+    Ok((outcome_by(told, out)?, events))
 }
 
 // The request by the pair that a client is told at a version.
@@ -104,17 +87,18 @@ fn request_at(alloc: Global, minor: u16) -> Result<CancelRequest, OutOfMemory> {
     Ok(CancelRequest::new(100000, key))
 }
 
+// What comes of a login, how many events there were before it, and those from then on.
 fn logged_in<R: Abort + Wait>(
     rt: &R,
     alloc: Global,
     minor: u16,
-) -> Result<(u64, Told), OutOfMemory> {
+) -> Result<(Outcome, u64, Events), OutOfMemory> {
+    let request = request_at(alloc, minor)?;
     let (manager, mut pass) = ConnectionManager::new(alloc)?;
     let manager = Arc::new(alloc, manager)?;
     let before = manager.events(&mut pass);
-    let request = request_at(alloc, minor)?;
-    let registered = registered(rt, alloc, &manager, pass, minor, request)?;
-    Ok((before, registered))
+    let (outcome, events) = registered(rt, alloc, &manager, pass, minor, request)?;
+    Ok((outcome, before, events))
 }
 
 // Minor versions, and what a client is sent: behind 3.0 its key has four bytes, behind 3.2 it has 32.
@@ -134,10 +118,10 @@ const LOGINS: &[(u16, &[u8])] = &[
 #[test]
 fn registered_logins(rt: HostRuntime) -> Result<(), Fail> {
     for (minor, sent) in LOGINS {
-        let (before, registered) = logged_in(&rt, rt.alloc(), *minor)?;
-        assert_eq!(rt; registered.word.as_str(), "ok");
-        assert_eq!(rt; registered.sent.as_slice(), *sent);
-        assert_eq!(rt; (before, registered.events), (0, (1, Some(true), 7)));
+        let (outcome, before, events) = logged_in(&rt, rt.alloc(), *minor)?;
+        compare(&rt, &outcome, "ok", sent);
+        drop(outcome);
+        assert_eq!(rt; (before, events), (0, (1, Some(true), 7)));
     }
     Ok(())
 }
@@ -154,7 +138,7 @@ fn unregistered<R: Abort + Wait>(
     let handler = Md5PasswordAuthStartupHandler::new(
         SECRET, Silent, generator,
     ).with_connection_manager(manager, rt);
-    outcome_of(rt, alloc, &handler, seat, steps)
+    outcome_of(rt, alloc, &handler, seat, DRAWN, steps)
 }
 
 #[test]
@@ -163,6 +147,6 @@ fn a_login_without_a_pass(rt: HostRuntime) -> Result<(), Fail> {
     let outcome = unregistered(&rt, rt.alloc(), &steps)?;
     let sent =
         b"R\0\0\0\x0c\0\0\0\x05\x14\xf7\x6b\xf9R\0\0\0\x08\0\0\0\0K\0\0\0\x0c\0\x01\x86\xa0\x01\x01\x01\x01Z\0\0\0\x05I";
-    compare(&rt, outcome, "ok", sent);
+    compare(&rt, &outcome, "ok", sent);
     Ok(())
 }

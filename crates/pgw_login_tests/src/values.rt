@@ -1,10 +1,10 @@
 //! What a client is at first, what it is told of the server, and what an outbox writes.
 
-use crate::support::{client_told, told};
+use crate::support::standing_of;
 use pgw_backend::backend::PgWireBackendMessage;
 use pgw_login::client_info::{
     ClientInfo, DEFAULT_NAME, DefaultClient, METADATA_APPLICATION_NAME, METADATA_CLIENT_ENCODING,
-    METADATA_DATABASE, METADATA_USER,
+    METADATA_DATABASE, METADATA_USER, PgWireConnectionState,
 };
 use pgw_login::outbox::{ByteOutbox, Outbox};
 use pgw_login::provider::{DefaultServerParameterProvider, ServerParameterProvider};
@@ -12,42 +12,61 @@ use pgw_login::source::LoginInfo;
 use pgw_query::response::{ReadyForQuery, TransactionStatus};
 use pgw_startup::authentication::Authentication;
 use pgw_startup::parameter_status::ParameterStatus;
+use pgw_types::context::ProtocolVersion;
 use pgw_types::memory::OutOfMemory;
 use pgw_types::text::Text;
 use pgw_wire::params::Params;
 use pgw_wire::secret_key::SecretKey;
 use std::alloc::Global;
+use std::process::Abort;
 use std::test::Fail;
 
 type Given = &'static [(&'static str, &'static str)];
 
+fn put(alloc: Global, parameters: &mut Params, name: &str, value: &str) -> Result<(), OutOfMemory> {
+    let name = Text::from_str(alloc, name)?;
+    let value = Text::from_str(alloc, value)?;
+    parameters.insert(name, value)
+}
+
 fn parameters_of(alloc: Global, given: Given) -> Result<Params, OutOfMemory> {
     let mut parameters = Params::new(alloc);
     for (name, value) in given {
-        let name = Text::from_str(alloc, name)?;
-        parameters.insert(name, Text::from_str(alloc, value)?)?;
+        put(alloc, &mut parameters, name, value)?;
     }
     Ok(parameters)
 }
 
 fn client_of(alloc: Global, given: Given) -> Result<DefaultClient<()>, OutOfMemory> {
-    let metadata = parameters_of(alloc, given)?;
     let host = Text::from_str(alloc, "10.0.0.1")?;
+    let metadata = parameters_of(alloc, given)?;
     let mut client = DefaultClient::new(alloc, host, true, ());
     client.set_metadata(metadata);
     Ok(client)
+}
+
+fn add_line(lines: &mut String, name: &str, value: &str) -> Result<(), OutOfMemory> {
+    lines.push_str(name)?;
+    lines.push_str("=")?;
+    lines.push_str(value)?;
+    lines.push_str("\n")?;
+    Ok(())
 }
 
 // A line for each parameter.
 fn lines_of(alloc: Global, parameters: &Params) -> Result<String, OutOfMemory> {
     let mut lines = String::new(alloc);
     for (name, value) in parameters.iter() {
-        lines.push_str(name.as_str())?;
-        lines.push_str("=")?;
-        lines.push_str(value.as_str())?;
-        lines.push_str("\n")?;
+        add_line(&mut lines, name.as_str(), value.as_str())?;
     }
     Ok(lines)
+}
+
+fn lines_or_none(alloc: Global, parameters: &Option<Params>) -> Result<String, OutOfMemory> {
+    match parameters {
+        Some(parameters) => lines_of(alloc, parameters),
+        None => Ok(String::from_str(alloc, "none")?),
+    }
 }
 
 // What a client is told that gave parameters.
@@ -57,10 +76,9 @@ fn provided<P: ServerParameterProvider>(
     given: Given,
 ) -> Result<String, OutOfMemory> {
     let client = client_of(alloc, given)?;
-    match provider.server_parameters(alloc, &client)? {
-        Some(parameters) => lines_of(alloc, &parameters),
-        None => Ok(String::from_str(alloc, "none")?),
-    }
+    let parameters = provider.server_parameters(alloc, &client)?;
+    drop(client);
+    lines_or_none(alloc, &parameters)
 }
 
 fn by_default(alloc: Global, given: Given) -> Result<String, OutOfMemory> {
@@ -145,15 +163,20 @@ fn end(out: &mut ByteOutbox) -> bool {
 
 // Messages that are handed on and ones that are sent stand in the buffer in their order. One that has no encoding is
 // refused and leaves it.
+fn check_outbox<R: Abort>(rt: &R, alloc: Global, out: &mut ByteOutbox) -> Result<(), OutOfMemory> {
+    let is_taken = accept(out);
+    assert_eq!(rt; (is_taken, out.buffer.as_slice()), (true, ACCEPTED));
+    let is_taken = tell_zero(alloc, out)?;
+    assert_eq!(rt; (is_taken, out.buffer.as_slice()), (false, ACCEPTED));
+    let is_taken = end(out);
+    assert_eq!(rt; (is_taken, out.buffer.as_slice()), (true, ENDED));
+    Ok(())
+}
+
 #[test]
 fn outbox_bytes(rt: HostRuntime) -> Result<(), Fail> {
     let mut out = ByteOutbox::new(rt.alloc());
-    let is_taken = accept(&mut out);
-    assert_eq!(rt; (is_taken, out.buffer.as_slice()), (true, ACCEPTED));
-    let is_taken = tell_zero(rt.alloc(), &mut out)?;
-    assert_eq!(rt; (is_taken, out.buffer.as_slice()), (false, ACCEPTED));
-    let is_taken = end(&mut out);
-    assert_eq!(rt; (is_taken, out.buffer.as_slice()), (true, ENDED));
+    check_outbox(&rt, rt.alloc(), &mut out)?;
     Ok(())
 }
 
@@ -163,69 +186,69 @@ fn has_no_key<C: ClientInfo>(client: &C) -> bool {
     *key == SecretKey::I32(0)
 }
 
-fn secured<C: ClientInfo>(alloc: Global, client: &C) -> Result<String, OutOfMemory> {
-    told(
-        alloc,
-        (
-            client.host().as_str(),
-            client.is_secure(),
-            client.transaction_status(),
-            client.metadata().len(),
-            has_no_key(client),
-        ),
+// Where a client calls from, whether it is encrypted, how its transaction stands, how many parameters it gave, and
+// whether its key is 0.
+fn secured<C: ClientInfo>(client: &C) -> (&str, bool, TransactionStatus, usize, bool) {
+    (
+        client.host().as_str(),
+        client.is_secure(),
+        client.transaction_status(),
+        client.metadata().len(),
+        has_no_key(client),
     )
+}
+
+fn check_new<R: Abort>(rt: &R, client: &DefaultClient<i32>) {
+    assert_eq!(rt;
+        (client.session_extensions, DEFAULT_NAME),
+        (5, "POSTGRESQL_DEFAULT_NAME")
+    );
+    let awaiting = PgWireConnectionState::AwaitingSslRequest;
+    assert_eq!(rt;
+        standing_of(client),
+        (awaiting, ProtocolVersion::PROTOCOL3_2, false, 0)
+    );
+    assert_eq!(rt;
+        secured(client),
+        ("10.0.0.1", true, TransactionStatus::Idle, 0, true)
+    );
 }
 
 #[test]
 fn new_client(rt: HostRuntime) -> Result<(), Fail> {
-    let alloc = rt.alloc();
-    let client = DefaultClient::new(alloc, Text::from_str(alloc, "10.0.0.1")?, true, 5);
-    assert_eq!(rt; client.session_extensions, 5);
-    assert_eq!(rt; DEFAULT_NAME, "POSTGRESQL_DEFAULT_NAME");
-    assert_eq!(rt;
-        client_told(alloc, &client)?.as_str(),
-        "(AwaitingSslRequest, PROTOCOL3_2, false, 0)"
-    );
-    assert_eq!(rt;
-        secured(alloc, &client)?.as_str(),
-        "(\"10.0.0.1\", true, Idle, 0, true)"
-    );
+    let host = Text::from_str(rt.alloc(), "10.0.0.1")?;
+    check_new(&rt, &DefaultClient::new(rt.alloc(), host, true, 5));
     Ok(())
 }
 
-fn login_told(alloc: Global, login: &LoginInfo<'_>) -> Result<String, OutOfMemory> {
-    told(alloc, (login.user(), login.database(), login.host()))
-}
+// A user, a database, and where the client calls from.
+type Told = (Option<&'static str>, Option<&'static str>, &'static str);
 
-fn login_of(alloc: Global, given: Given) -> Result<String, OutOfMemory> {
-    let client = client_of(alloc, given)?;
-    login_told(alloc, &LoginInfo::from_client_info(&client))
+fn check_login<R: Abort>(rt: &R, login: &LoginInfo<'_>, told: &Told) {
+    assert_eq!(rt; (login.user(), login.database(), login.host()), *told);
 }
 
 // What clients give, and who logs in.
-const LOGINS: &[(Given, &str)] = &[
-    (&[], "(None, None, \"10.0.0.1\")"),
+const LOGINS: &[(Given, Told)] = &[
+    (&[], (None, None, "10.0.0.1")),
     (
         &[(METADATA_USER, "bob"), (METADATA_DATABASE, "test")],
-        "(Some(\"bob\"), Some(\"test\"), \"10.0.0.1\")",
+        (Some("bob"), Some("test"), "10.0.0.1"),
     ),
 ];
 
 // Who logs in, as the client told it.
 #[test]
 fn login_info(rt: HostRuntime) -> Result<(), Fail> {
-    for (given, login) in LOGINS {
-        assert_eq!(rt; login_of(rt.alloc(), given)?.as_str(), *login);
+    for (given, told) in LOGINS {
+        let client = client_of(rt.alloc(), given)?;
+        check_login(&rt, &LoginInfo::from_client_info(&client), told);
     }
     Ok(())
 }
 
 #[test]
-fn made_login_info(rt: HostRuntime) -> Result<(), Fail> {
+fn made_login_info(rt: HostRuntime) {
     let login = LoginInfo::new(None, Some("test"), "::1");
-    assert_eq!(rt;
-        login_told(rt.alloc(), &login)?.as_str(),
-        "(None, Some(\"test\"), \"::1\")"
-    );
-    Ok(())
+    check_login(&rt, &login, &(None, Some("test"), "::1"));
 }
