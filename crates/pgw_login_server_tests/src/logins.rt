@@ -1,7 +1,6 @@
 //! Logins, however their bytes are cut.
 
 use crate::servers::{Asks, compare, server_says};
-use crate::support::Said;
 use pgw_types::memory::OutOfMemory;
 use std::alloc::Global;
 use std::process::Abort;
@@ -33,7 +32,7 @@ fn server_core_ssl(rt: HostRuntime) -> Result<(), Fail> {
     for (bytes, answer, out) in ENCRYPTED {
         for cut in [1, 7, 100] {
             let said = server_says(&rt, rt.alloc(), Asks::Cleartext, bytes, cut)?;
-            compare(&rt, said, answer, out, cut);
+            compare(&rt, &said, answer, out, cut);
         }
     }
     Ok(())
@@ -50,7 +49,7 @@ const LET_IN_BY_MD5: &[u8] =
 fn md5_login(rt: HostRuntime) -> Result<(), Fail> {
     for cut in [1, 22, 100] {
         let said = server_says(&rt, rt.alloc(), Asks::Md5, MD5, cut)?;
-        compare(&rt, said, "finished", LET_IN_BY_MD5, cut);
+        compare(&rt, &said, "finished", LET_IN_BY_MD5, cut);
     }
     Ok(())
 }
@@ -106,7 +105,7 @@ const ENDS: &[(&[u8], usize, &str, &[u8])] = &[
 fn ends_stay(rt: HostRuntime) -> Result<(), Fail> {
     for (bytes, cut, answer, out) in ENDS {
         let said = server_says(&rt, rt.alloc(), Asks::Cleartext, bytes, *cut)?;
-        compare(&rt, said, answer, out, *cut);
+        compare(&rt, &said, answer, out, *cut);
     }
     Ok(())
 }
@@ -131,9 +130,18 @@ fn behind_startup(alloc: Global, bytes: &[u8]) -> Result<Vec<u8>, OutOfMemory> {
     Ok(all)
 }
 
-fn compare_answer<R: Abort>(rt: &R, said: Said, answer: &str, cut: usize) {
-    assert_eq!(rt; said.answer.as_str(), answer, "cut at {cut}");
-    drop(said);
+// Compares what the server answers under the bound, however the bytes are cut.
+fn check_bound<R: Abort>(
+    rt: &R,
+    alloc: Global,
+    bytes: &[u8],
+    answer: &str,
+) -> Result<(), OutOfMemory> {
+    for cut in [1, 100] {
+        let said = server_says(rt, alloc, Asks::CleartextWithin(16), bytes, cut)?;
+        assert_eq!(rt; said.answer.as_str(), answer, "cut at {cut}");
+    }
+    Ok(())
 }
 
 // A bound holds from the startup message on until the client may ask.
@@ -141,10 +149,7 @@ fn compare_answer<R: Abort>(rt: &R, said: Said, answer: &str, cut: usize) {
 fn bound_before_a_login(rt: HostRuntime) -> Result<(), Fail> {
     for (bytes, answer) in BOUNDED {
         let all = behind_startup(rt.alloc(), bytes)?;
-        for cut in [1, 100] {
-            let said = server_says(&rt, rt.alloc(), Asks::CleartextWithin(16), &all, cut)?;
-            compare_answer(&rt, said, answer, cut);
-        }
+        check_bound(&rt, rt.alloc(), &all, answer)?;
     }
     Ok(())
 }

@@ -23,11 +23,10 @@ use std::test::Fail;
 const OFFER: usize = 24;
 
 fn startup(alloc: Global) -> Result<PgWireFrontendMessage, OutOfMemory> {
-    let mut startup = Startup::new(alloc);
     let name = Text::from_str(alloc, METADATA_USER)?;
-    startup
-        .parameters
-        .insert(name, Text::from_str(alloc, "bob")?)?;
+    let user = Text::from_str(alloc, "bob")?;
+    let mut startup = Startup::new(alloc);
+    startup.parameters.insert(name, user)?;
     Ok(PgWireFrontendMessage::Startup(startup))
 }
 
@@ -45,8 +44,11 @@ fn further(alloc: Global, text: &str) -> Result<PgWireFrontendMessage, OutOfMemo
     Ok(PgWireFrontendMessage::PasswordMessageFamily(message))
 }
 
-fn put(bytes: &mut BytesMut, message: PgWireFrontendMessage) -> PgWireResult<()> {
-    message.encode(bytes)
+fn put(
+    bytes: &mut BytesMut,
+    message: Result<PgWireFrontendMessage, OutOfMemory>,
+) -> PgWireResult<()> {
+    message?.encode(bytes)
 }
 
 // The text of the message of a server that stands there, behind its type, its length and its code.
@@ -63,13 +65,14 @@ fn client(alloc: Global) -> Result<ScramClientAuth, OutOfMemory> {
     Ok(ScramClientAuth::new(name, Text::from_str(alloc, "pencil")?))
 }
 
-// Puts out the client's first message of SCRAM.
+// Puts out the startup message and the client's first message of SCRAM.
 fn begin(
     alloc: Global,
     bytes: &mut BytesMut,
 ) -> Result<ScramClientAuthWaitingForServerFirst, Fail> {
+    put(bytes, startup(alloc))?;
     let (text, client) = client(alloc)?.build_client_first(alloc, &[0; 18])?;
-    put(bytes, first(alloc, text.as_str())?)?;
+    put(bytes, first(alloc, text.as_str()))?;
     Ok(client)
 }
 
@@ -81,7 +84,7 @@ fn end(
     bytes: &mut BytesMut,
 ) -> Result<ScramClientAuthWaitingForServerFinal, Fail> {
     let (text, client) = client.build_client_final(alloc, text_at(said, OFFER))?;
-    put(bytes, further(alloc, text.as_str())?)?;
+    put(bytes, further(alloc, text.as_str()))?;
     Ok(client)
 }
 
@@ -96,28 +99,37 @@ fn sent<R: Abort>(
     cut: usize,
     bytes: &mut BytesMut,
 ) -> Result<(usize, ScramClientAuthWaitingForServerFinal), Fail> {
-    put(bytes, startup(alloc)?)?;
     let client = begin(alloc, bytes)?;
     let said = heard(rt, alloc, bytes, cut)?;
     let client = end(alloc, client, said.out.as_slice(), bytes)?;
     Ok((said.out.len(), client))
 }
 
-// What the server answers to all that the client sends, once the client has found that it knows the password.
-fn log_in<R: Abort>(rt: &R, alloc: Global, cut: usize) -> Result<String, Fail> {
-    let mut bytes = BytesMut::new(alloc);
-    let (count, client) = sent(rt, alloc, cut, &mut bytes)?;
-    let said = heard(rt, alloc, &bytes, cut)?;
-    client.verify_server_final(alloc, text_at(said.out.as_slice(), count))?;
+// What the server answers to all that the client sends, and whether the client then finds that it knows the password.
+fn answered<R: Abort>(
+    rt: &R,
+    alloc: Global,
+    cut: usize,
+    bytes: &mut BytesMut,
+) -> Result<(String, bool), Fail> {
+    let (count, client) = sent(rt, alloc, cut, bytes)?;
+    let said = heard(rt, alloc, bytes, cut)?;
+    let last = text_at(said.out.as_slice(), count);
+    let is_known = client.verify_server_final(alloc, last).is_ok();
     drop(client);
-    drop(bytes);
-    Ok(said.answer)
+    Ok((said.answer, is_known))
+}
+
+fn log_in<R: Abort>(rt: &R, alloc: Global, cut: usize) -> Result<(String, bool), Fail> {
+    let mut bytes = BytesMut::new(alloc);
+    answered(rt, alloc, cut, &mut bytes)
 }
 
 #[test]
 fn scram_login(rt: HostRuntime) -> Result<(), Fail> {
     for cut in [1, 7, 1000] {
-        assert_eq!(rt; log_in(&rt, rt.alloc(), cut)?.as_str(), "finished");
+        let (answer, is_known) = log_in(&rt, rt.alloc(), cut)?;
+        assert_eq!(rt; (answer.as_str(), is_known), ("finished", true));
     }
     Ok(())
 }

@@ -127,8 +127,7 @@ pub fn server_says<R: Abort>(
 }
 
 /// Compares what a server says with what is wanted, of bytes that came so many at a time.
-pub fn compare<R: Abort>(rt: &R, said: Said, answer: &str, out: &[u8], cut: usize) {
-    assert_eq!(rt; said.answer.as_str(), answer, "cut at {cut}");
-    assert_eq!(rt; said.out.as_slice(), out, "cut at {cut}");
-    drop(said);
+pub fn compare<R: Abort>(rt: &R, said: &Said, answer: &str, out: &[u8], cut: usize) {
+    let came = (said.answer.as_str(), said.out.as_slice());
+    assert_eq!(rt; came, (answer, out), "cut at {cut}");
 }

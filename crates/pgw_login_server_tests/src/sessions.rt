@@ -70,13 +70,28 @@ fn check_client<R: Abort>(
     want: &[u8],
 ) -> Result<(), OutOfMemory> {
     let (client, is_done) = client_says(alloc, config, server)?;
-    assert!(rt; is_done);
-    assert_eq!(rt; client.as_slice(), want);
+    assert_eq!(rt; (is_done, client.as_slice()), (true, want));
     Ok(())
 }
 
 // The client that hears this server is done and says what it is to say, and the server that hears it says this and is
 // finished.
+fn check_both<R: Abort>(
+    rt: &R,
+    alloc: Global,
+    asks: Asks,
+    config: &Config,
+    cut: usize,
+    server: &BytesMut,
+    want: &[u8],
+) -> Result<(), OutOfMemory> {
+    check_client(rt, alloc, config, server, want)?;
+    let said = server_says(rt, alloc, asks, want, cut)?;
+    compare(rt, &said, "finished", server.as_slice(), cut);
+    Ok(())
+}
+
+// Checks both by what the server says in the end.
 fn agree<R: Abort>(
     rt: &R,
     alloc: Global,
@@ -86,10 +101,7 @@ fn agree<R: Abort>(
     want: &[u8],
 ) -> Result<(), OutOfMemory> {
     let server = talked(rt, alloc, asks, config, cut)?;
-    check_client(rt, alloc, config, &server, want)?;
-    let said = server_says(rt, alloc, asks, want, cut)?;
-    compare(rt, said, "finished", server.as_slice(), cut);
-    Ok(())
+    check_both(rt, alloc, asks, config, cut, &server, want)
 }
 
 // As `agree`, however the client's bytes are cut.

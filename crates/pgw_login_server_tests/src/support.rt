@@ -75,21 +75,19 @@ fn told(alloc: Global, answer: &PgWireResult<ServerPhase>) -> Result<String, Out
     }
 }
 
+fn check_none<R: Abort, T>(rt: &R, value: Option<T>) {
+    match value {
+        None => {}
+        Some(_value) => panic!(rt; "registered"),
+    }
+}
+
 // Lets a login go that was registered nowhere.
 fn let_go<R: Abort>(rt: &R, state: LoginState) {
     let (_seat, pass, handle, guard) = state.finish();
-    match pass {
-        None => {}
-        Some(_pass) => panic!(rt; "registered"),
-    }
-    match handle {
-        None => {}
-        Some(_handle) => panic!(rt; "registered"),
-    }
-    match guard {
-        None => {}
-        Some(_guard) => panic!(rt; "registered"),
-    }
+    check_none(rt, pass);
+    check_none(rt, handle);
+    check_none(rt, guard);
 }
 
 fn close<H: StartupHandler + Drop, R: Abort>(rt: &R, core: ServerCore<H>) {
