@@ -1,6 +1,6 @@
 //! How two parties end, by what they know and the schedule.
 
-use crate::support::{Ends, HONEST, Knows, Stored, ends_of, outcome, turns};
+use crate::support::{HONEST, Knows, Stored, ends_of, outcome, turns};
 use pgw_client::{Listed, OutOfMemory};
 use pgw_login_pair::Event;
 use std::alloc::Global;
@@ -16,7 +16,12 @@ fn bytes_in_turn(alloc: Global, count: usize) -> Result<Listed<Event>, OutOfMemo
     Ok(events)
 }
 
-fn ends_by(alloc: Global, knows: &Knows<'_>, schedule: Listed<Event>) -> Result<Ends, OutOfMemory> {
+// How the client and the server end.
+fn ends_by(
+    alloc: Global,
+    knows: &Knows<'_>,
+    schedule: Listed<Event>,
+) -> Result<(&'static str, &'static str), OutOfMemory> {
     let outcome = outcome(alloc, knows, schedule)?;
     let ends = ends_of(&outcome);
     drop(outcome);
@@ -26,24 +31,21 @@ fn ends_by(alloc: Global, knows: &Knows<'_>, schedule: Listed<Event>) -> Result<
 #[test]
 fn honest_parties(rt: HostRuntime) -> Result<(), Fail> {
     let ends = ends_by(rt.alloc(), &HONEST, turns(rt.alloc(), 3)?)?;
-    assert_eq!(rt; ends.client, "ready");
-    assert_eq!(rt; ends.server, "finished");
+    assert_eq!(rt; ends, ("ready", "finished"));
     Ok(())
 }
 
 #[test]
 fn byte_by_byte(rt: HostRuntime) -> Result<(), Fail> {
     let ends = ends_by(rt.alloc(), &HONEST, bytes_in_turn(rt.alloc(), 3000)?)?;
-    assert_eq!(rt; ends.client, "ready");
-    assert_eq!(rt; ends.server, "finished");
+    assert_eq!(rt; ends, ("ready", "finished"));
     Ok(())
 }
 
 #[test]
 fn no_event(rt: HostRuntime) -> Result<(), Fail> {
     let ends = ends_by(rt.alloc(), &HONEST, Listed::new(rt.alloc()))?;
-    assert_eq!(rt; ends.client, "waiting");
-    assert_eq!(rt; ends.server, "waiting");
+    assert_eq!(rt; ends, ("waiting", "waiting"));
     Ok(())
 }
 
@@ -52,8 +54,7 @@ fn last_event_left_out(rt: HostRuntime) -> Result<(), Fail> {
     let mut events = turns(rt.alloc(), 2)?;
     events.push(Event::ToServer(10000))?;
     let ends = ends_by(rt.alloc(), &HONEST, events)?;
-    assert_eq!(rt; ends.client, "waiting");
-    assert_eq!(rt; ends.server, "finished");
+    assert_eq!(rt; ends, ("waiting", "finished"));
     Ok(())
 }
 
@@ -158,8 +159,7 @@ const OTHERS: &[(Knows<'static>, &str, &str)] = &[
 fn other_parties(rt: HostRuntime) -> Result<(), Fail> {
     for (knows, client, server) in OTHERS {
         let ends = ends_by(rt.alloc(), knows, turns(rt.alloc(), 3)?)?;
-        assert_eq!(rt; ends.client, *client);
-        assert_eq!(rt; ends.server, *server);
+        assert_eq!(rt; ends, (*client, *server));
     }
     Ok(())
 }

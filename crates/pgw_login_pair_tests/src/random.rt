@@ -1,10 +1,11 @@
 //! Schedules that are drawn.
 
-use crate::support::{HONEST, Knows, client_word, outcome, server_word, turns};
+use crate::support::{HONEST, Knows, ends_of, outcome, turns};
 use pgw_client::{Listed, Octets, OutOfMemory};
 use pgw_login_pair::Event;
 use pgw_login_pair::parties::PairOutcome;
 use std::alloc::Global;
+use std::process::Abort;
 use std::test::Fail;
 
 // The next number of a linear congruential generator.
@@ -48,7 +49,7 @@ struct Seen {
 
 // Whether honest parties may end so. It is noted.
 fn may_end(outcome: &PairOutcome, seen: &mut Seen) -> bool {
-    match (client_word(&outcome.client), server_word(&outcome.server)) {
+    match ends_of(outcome) {
         ("ready", "finished") => {
             seen.both = true;
             true
@@ -100,24 +101,35 @@ fn next_holds(
     Ok(holds)
 }
 
+const SEED: u64 = 20260726;
+
+// Draws a thousand schedules, and notes which ends came.
+fn check_drawn<R: Abort>(
+    rt: &R,
+    alloc: Global,
+    knows: &Knows<'_>,
+    all: &(Octets, Octets),
+    seen: &mut Seen,
+) -> Result<(), OutOfMemory> {
+    let mut state = SEED;
+    for i in 0..1000 {
+        let holds = next_holds(alloc, knows, &mut state, all, seen)?;
+        assert!(rt; holds, "schedule {i}");
+    }
+    Ok(())
+}
+
 #[test]
 fn drawn_schedules(rt: HostRuntime) -> Result<(), Fail> {
-    let alloc = rt.alloc();
     let knows = Knows { count: 1, ..HONEST };
-    let all = all_written(alloc, &knows)?;
-    let seed: u64 = 20260726;
-    let mut state = seed;
+    let all = all_written(rt.alloc(), &knows)?;
     let mut seen = Seen {
         none: false,
         server: false,
         both: false,
     };
-    for i in 0..1000 {
-        let holds = next_holds(alloc, &knows, &mut state, &all, &mut seen)?;
-        assert!(rt; holds, "schedule {i} of seed {seed}");
-    }
-    assert!(rt; seen.none);
-    assert!(rt; seen.server);
-    assert!(rt; seen.both);
+    check_drawn(&rt, rt.alloc(), &knows, &all, &mut seen)?;
+    drop(all);
+    assert_eq!(rt; (seen.none, seen.server, seen.both), (true, true, true));
     Ok(())
 }

@@ -38,16 +38,20 @@ pub const HONEST: Knows<'static> = Knows {
     server_hash: None,
 };
 
-fn kept(alloc: Global, knows: &Knows<'_>) -> Result<Password, OutOfMemory> {
-    let password = match knows.stored {
+fn password(alloc: Global, knows: &Knows<'_>) -> Result<Octets, OutOfMemory> {
+    match knows.stored {
         Stored::Of(text) => {
             let salt = knows.salt.unwrap_or(b"salt");
             let salted = gen_salted_password(alloc, text, salt, knows.count.max(1))?;
-            Octets::from_slice(alloc, &salted)?
+            Octets::from_slice(alloc, &salted)
         }
-        Stored::Bytes(bytes) => Octets::from_slice(alloc, bytes)?,
-    };
-    Ok(Password::new(octets(alloc, knows.salt)?, password))
+        Stored::Bytes(bytes) => Octets::from_slice(alloc, bytes),
+    }
+}
+
+fn kept(alloc: Global, knows: &Knows<'_>) -> Result<Password, OutOfMemory> {
+    let salt = octets(alloc, knows.salt)?;
+    Ok(Password::new(salt, password(alloc, knows)?))
 }
 
 fn octets(alloc: Global, bytes: Option<&[u8]>) -> Result<Option<Octets>, OutOfMemory> {
@@ -57,23 +61,37 @@ fn octets(alloc: Global, bytes: Option<&[u8]>) -> Result<Option<Octets>, OutOfMe
     }
 }
 
-/// An input with these events, and zeros for what is drawn.
-pub fn input_for(
+// The name and the password of the client.
+fn client_of(alloc: Global, knows: &Knows<'_>) -> Result<(Text, Octets), OutOfMemory> {
+    let user = Text::from_str(alloc, knows.user)?;
+    Ok((user, Octets::from_slice(alloc, knows.password)?))
+}
+
+// The hash of the client, and the server's.
+fn hashes(
     alloc: Global,
     knows: &Knows<'_>,
-    schedule: Listed<Event>,
-) -> Result<PairInput, OutOfMemory> {
+) -> Result<(Option<Octets>, Option<Octets>), OutOfMemory> {
+    let of_client = octets(alloc, knows.client_hash)?;
+    Ok((of_client, octets(alloc, knows.server_hash)?))
+}
+
+// An input without events, and zeros for what is drawn.
+fn input_for(alloc: Global, knows: &Knows<'_>) -> Result<PairInput, OutOfMemory> {
+    let (user, password) = client_of(alloc, knows)?;
+    let stored = kept(alloc, knows)?;
+    let (client_hash, server_hash) = hashes(alloc, knows)?;
     Ok(PairInput {
-        user: Text::from_str(alloc, knows.user)?,
-        password: Octets::from_slice(alloc, knows.password)?,
-        stored: kept(alloc, knows)?,
+        user,
+        password,
+        stored,
         count: knows.count,
         client_nonce: [0; 18],
         server_nonce: [0; 18],
         words: [0; 32],
-        client_hash: octets(alloc, knows.client_hash)?,
-        server_hash: octets(alloc, knows.server_hash)?,
-        schedule,
+        client_hash,
+        server_hash,
+        schedule: Listed::new(alloc),
     })
 }
 
@@ -85,8 +103,8 @@ fn config_word(key: &Text) -> &'static str {
     }
 }
 
-/// How the client ends.
-pub fn client_word(end: &ClientEnd) -> &'static str {
+// How the client ends.
+fn client_word(end: &ClientEnd) -> &'static str {
     match end {
         ClientEnd::Waiting => "waiting",
         ClientEnd::Ready(_) => "ready",
@@ -96,8 +114,8 @@ pub fn client_word(end: &ClientEnd) -> &'static str {
     }
 }
 
-/// How the server ends.
-pub fn server_word(end: &ServerEnd) -> &'static str {
+// How the server ends.
+fn server_word(end: &ServerEnd) -> &'static str {
     match end {
         ServerEnd::Waiting => "waiting",
         ServerEnd::Finished => "finished",
@@ -122,29 +140,21 @@ pub fn turns(alloc: Global, count: usize) -> Result<Listed<Event>, OutOfMemory> 
     Ok(events)
 }
 
-/// How two parties end.
-#[derive(Clone, Copy)]
-pub struct Ends {
-    pub client: &'static str,
-    pub server: &'static str,
-}
-
 /// What comes of this schedule.
 pub fn outcome(
     alloc: Global,
     knows: &Knows<'_>,
     schedule: Listed<Event>,
 ) -> Result<PairOutcome, OutOfMemory> {
-    let mut input = input_for(alloc, knows, schedule)?;
+    let mut input = input_for(alloc, knows)?;
     input.count = input.count.max(1);
+    input.schedule = schedule;
     let outcome = two_party(alloc, &input);
     drop(input);
     outcome
 }
 
-pub fn ends_of(outcome: &PairOutcome) -> Ends {
-    Ends {
-        client: client_word(&outcome.client),
-        server: server_word(&outcome.server),
-    }
+/// How the client and the server end.
+pub fn ends_of(outcome: &PairOutcome) -> (&'static str, &'static str) {
+    (client_word(&outcome.client), server_word(&outcome.server))
 }
