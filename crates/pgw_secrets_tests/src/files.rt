@@ -1,5 +1,6 @@
 //! Files of passwords.
 use pgw_secrets::password_file::{PasswordFile, is_open_to_others};
+use std::process::Abort;
 use std::test::Fail;
 
 // A file of which each line tells something.
@@ -33,17 +34,19 @@ const ASKED: &[(&str, u16, &str, &str, Option<&[u8]>)] = &[
     ("last", 10, "d", "zoe", None),
 ];
 
-#[test]
-fn look_ups(rt: HostRuntime) -> Result<(), Fail> {
-    let file = PasswordFile::read(rt.alloc(), FILE)?;
+fn check_look_ups<R: Abort>(rt: &R, file: &PasswordFile) {
     for (host, port, database, user, wanted) in ASKED {
         let found = file
             .lookup(host, *port, database, user)
             .map(|password| password.as_slice());
-        if found != *wanted {
-            return Err(Fail::new(format_args!("{host} {user}: {found:?}")));
-        }
+        assert_eq!(rt; found, *wanted, "{host} {user}");
     }
+}
+
+#[test]
+fn look_ups(rt: HostRuntime) -> Result<(), Fail> {
+    let file = PasswordFile::read(rt.alloc(), FILE)?;
+    check_look_ups(&rt, &file);
     Ok(())
 }
 
@@ -58,11 +61,8 @@ const MODES: &[(u32, bool)] = &[
 ];
 
 #[test]
-fn modes(_rt: HostRuntime) -> Result<(), Fail> {
+fn modes(rt: HostRuntime) {
     for (mode, wanted) in MODES {
-        if is_open_to_others(*mode) != *wanted {
-            return Err(Fail::new(format_args!("{mode:o}")));
-        }
+        assert_eq!(rt; is_open_to_others(*mode), *wanted, "{mode:o}");
     }
-    Ok(())
 }

@@ -4,10 +4,12 @@ use pgw_scram::client::{
 };
 use pgw_secrets::secret::{SecretFault, StoredSecret};
 use pgw_secrets::server::{StoredScramAuth, StoredScramWaiting};
+use pgw_types::error::PgWireResult;
 use pgw_types::memory::OutOfMemory;
 use pgw_types::text::Text;
 use std::alloc::Global;
 use std::fmt::Debug;
+use std::process::Abort;
 use std::test::Fail;
 
 const SALT: &[u8] = b"\x5b\x6d\x99\x68\x9d\x12\x35\x8e\xec\xa0\x4b\x14\x12\x36\xfa\x81";
@@ -29,27 +31,34 @@ const PROOFS: &[(&str, bool)] = &[
     ("", false),
 ];
 
-// RFC 7677, section 3.
-#[test]
-fn proofs(rt: HostRuntime) -> Result<(), Fail> {
-    let secret = StoredSecret::make(rt.alloc(), "pencil", SALT, 4096)?;
+// The secret of the example of RFC 7677, section 3.
+fn example(alloc: Global) -> Result<StoredSecret, OutOfMemory> {
+    StoredSecret::make(alloc, "pencil", SALT, 4096)
+}
+
+fn check_proofs<R: Abort>(rt: &R, alloc: Global, secret: &StoredSecret) -> Result<(), OutOfMemory> {
     for (proof, wanted) in PROOFS {
-        let found = secret.verify_proof(rt.alloc(), BARE, FIRST, WITHOUT_PROOF, proof)?;
-        if found != *wanted {
-            return Err(Fail::new(format_args!("{proof} is {found}")));
-        }
+        let found = secret.verify_proof(alloc, BARE, FIRST, WITHOUT_PROOF, proof)?;
+        assert_eq!(rt; found, *wanted, "{proof}");
     }
     Ok(())
 }
 
 #[test]
-fn signature(_rt: HostRuntime) -> Result<(), Fail> {
-    let secret = StoredSecret::make(_rt.alloc(), "pencil", SALT, 4096)?;
-    let signature = secret.signature(BARE, FIRST, WITHOUT_PROOF);
-    if signature.as_slice() == b"6rriTRBi23WpRR/wtup+mMhUZUn/dB5nLTJRsjl95G4=".as_slice() {
-        return Ok(());
-    }
-    Err(Fail::new(format_args!("{signature:?}")))
+fn proofs(rt: HostRuntime) -> Result<(), Fail> {
+    let secret = example(rt.alloc())?;
+    check_proofs(&rt, rt.alloc(), &secret)?;
+    Ok(())
+}
+
+#[test]
+fn signature(rt: HostRuntime) -> Result<(), Fail> {
+    let signature = example(rt.alloc())?.signature(BARE, FIRST, WITHOUT_PROOF);
+    assert_eq!(rt;
+        signature.as_slice(),
+        b"6rriTRBi23WpRR/wtup+mMhUZUn/dB5nLTJRsjl95G4=".as_slice()
+    );
+    Ok(())
 }
 
 // The text of a password's secret, with the salt of the example and so many rounds. The keys were computed with Python's
@@ -71,17 +80,25 @@ fn text_of(alloc: Global, password: &str, salt: &[u8], count: u32) -> Result<Tex
     StoredSecret::make(alloc, password, salt, count.max(1))?.to_text(alloc)
 }
 
+fn read_again(alloc: Global, text: &str) -> Result<Text, SecretFault> {
+    let secret = StoredSecret::read(alloc, text)?;
+    Ok(secret.to_text(alloc)?)
+}
+
+// A text that is read back is itself.
+fn check_again<R: Abort>(rt: &R, alloc: Global, text: &str) -> Result<(), SecretFault> {
+    let again = read_again(alloc, text)?;
+    assert_eq!(rt; again.as_str(), text);
+    Ok(())
+}
+
 #[test]
 fn texts(rt: HostRuntime) -> Result<(), Fail> {
     for (password, count, wanted) in TEXTS {
         let text = text_of(rt.alloc(), password, SALT, *count)?;
-        if text.as_str() != *wanted {
-            return Err(Fail::new(format_args!("{} and not {wanted}", text.as_str())));
-        }
-        let again = read_again(rt.alloc(), text.as_str())?;
-        if again.as_str() != *wanted {
-            return Err(Fail::new(format_args!("{} read back", again.as_str())));
-        }
+        assert_eq!(rt; text.as_str(), *wanted);
+        drop(text);
+        check_again(&rt, rt.alloc(), wanted)?;
     }
     Ok(())
 }
@@ -92,20 +109,10 @@ const POSTGRESQLS: &str =
 
 #[test]
 fn postgresqls_own(rt: HostRuntime) -> Result<(), Fail> {
-    let text = read_again(rt.alloc(), POSTGRESQLS)?;
-    if text.as_str() != POSTGRESQLS {
-        return Err(Fail::new(format_args!("{} read back", text.as_str())));
-    }
+    check_again(&rt, rt.alloc(), POSTGRESQLS)?;
     let found = logged_in(rt.alloc(), "geheim", POSTGRESQLS)?;
-    if found.as_str() == "accepted" {
-        return Ok(());
-    }
-    Err(Fail::new(format_args!("{}", found.as_str())))
-}
-
-fn read_again(alloc: Global, text: &str) -> Result<Text, SecretFault> {
-    let secret = StoredSecret::read(alloc, text)?;
-    Ok(secret.to_text(alloc)?)
+    assert_eq!(rt; found.as_str(), "accepted");
+    Ok(())
 }
 
 // A text that tells no secret, and its first faulty part.
@@ -138,22 +145,17 @@ const FAULTS: &[(&str, SecretFault)] = &[
 ];
 
 #[test]
-fn faults(rt: HostRuntime) -> Result<(), Fail> {
+fn faults(rt: HostRuntime) {
     for (text, wanted) in FAULTS {
-        match StoredSecret::read(rt.alloc(), text).err() {
-            Some(fault) if fault == *wanted => {}
-            found => return Err(Fail::new(format_args!("{text}: {found:?}"))),
-        }
+        let found = StoredSecret::read(rt.alloc(), text).err();
+        assert_eq!(rt; found, Some(*wanted), "{text}");
     }
-    Ok(())
 }
 
 // The server that keeps the secret of this text.
 fn server_of(alloc: Global, text: &str) -> Option<StoredScramAuth> {
-    let secret = StoredSecret::read(alloc, text).ok()?;
-    if secret.count == 0 {
-        return None;
-    }
+    let mut secret = StoredSecret::read(alloc, text).ok()?;
+    secret.count = secret.count.max(1);
     Some(StoredScramAuth::new(secret))
 }
 
@@ -182,6 +184,23 @@ fn first_of(
     Some((answer, client, server))
 }
 
+// The server's first message of a login, and both ends behind it.
+fn begun(
+    alloc: Global,
+    password: &str,
+    secret: &str,
+) -> Option<
+    (
+        Text,
+        ScramClientAuthWaitingForServerFirst,
+        StoredScramWaiting,
+    ),
+> {
+    let server = server_of(alloc, secret)?;
+    let client = client_of(alloc, password)?;
+    first_of(alloc, client, &server)
+}
+
 // The client's last message, and both ends behind it.
 fn last_of(
     alloc: Global,
@@ -194,9 +213,7 @@ fn last_of(
         StoredScramWaiting,
     ),
 > {
-    let server = server_of(alloc, secret)?;
-    let client = client_of(alloc, password)?;
-    let (answer, client, server) = first_of(alloc, client, &server)?;
+    let (answer, client, server) = begun(alloc, password, secret)?;
     let answer = answer.as_str().as_bytes();
     let (last, client) = client.build_client_final(alloc, answer).ok()?;
     Some((last, client, server))
@@ -206,30 +223,51 @@ fn shown<T: Debug>(alloc: Global, value: &T) -> Result<String, OutOfMemory> {
     Ok(format!(in alloc; "{value:?}")?)
 }
 
-// What the server says last to the client, and whether the client takes it for the server's.
+// Whether the client takes the server's last message for the server's.
+fn verdict(
+    alloc: Global,
+    client: &ScramClientAuthWaitingForServerFinal,
+    text: &Text,
+) -> &'static str {
+    if client
+        .verify_server_final(alloc, text.as_str().as_bytes())
+        .is_ok()
+    {
+        "accepted"
+    } else {
+        "another server"
+    }
+}
+
+// What the client finds of the server's answer, or why the server refused it.
+fn told(
+    alloc: Global,
+    client: &ScramClientAuthWaitingForServerFinal,
+    answer: &PgWireResult<Text>,
+) -> Result<String, OutOfMemory> {
+    match answer {
+        Ok(text) => Ok(String::from_str(alloc, verdict(alloc, client, text))?),
+        Err(error) => shown(alloc, error),
+    }
+}
+
 fn judged(
     alloc: Global,
     last: &Text,
     client: &ScramClientAuthWaitingForServerFinal,
     server: &StoredScramWaiting,
 ) -> Result<String, OutOfMemory> {
-    let last = last.as_str().as_bytes();
-    match server.on_client_final_message(alloc, last) {
-        Ok(text) => {
-            let taken = client
-                .verify_server_final(alloc, text.as_str().as_bytes())
-                .is_ok();
-            Ok(String::from_str(alloc, if taken { "accepted" } else { "another server" })?)
-        }
-        Err(error) => shown(alloc, &error),
-    }
+    let answer = server.on_client_final_message(alloc, last.as_str().as_bytes());
+    let told = told(alloc, client, &answer);
+    drop(answer);
+    told
 }
 
 // A login of a client with this password, by the server that keeps this secret's text: what the server answers last.
-fn logged_in(alloc: Global, password: &str, secret: &str) -> Result<String, Fail> {
+fn logged_in(alloc: Global, password: &str, secret: &str) -> Result<String, OutOfMemory> {
     match last_of(alloc, password, secret) {
-        Some((last, client, server)) => Ok(judged(alloc, &last, &client, &server)?),
-        None => Err(Fail::new(format_args!("no exchange"))),
+        Some((last, client, server)) => judged(alloc, &last, &client, &server),
+        None => Ok(String::from_str(alloc, "no exchange")?),
     }
 }
 
@@ -243,14 +281,17 @@ const LOGINS: &[(&str, &str, &str)] = &[
     ),
 ];
 
+// A login at the server that keeps the one password's secret, by a client that has the other.
+fn login(alloc: Global, kept: &str, given: &str) -> Result<String, OutOfMemory> {
+    let text = text_of(alloc, kept, SALT, 7)?;
+    logged_in(alloc, given, text.as_str())
+}
+
 #[test]
 fn logins(rt: HostRuntime) -> Result<(), Fail> {
     for (kept, given, wanted) in LOGINS {
-        let text = text_of(rt.alloc(), kept, SALT, 7)?;
-        let found = logged_in(rt.alloc(), given, text.as_str())?;
-        if found.as_str() != *wanted {
-            return Err(Fail::new(format_args!("{given}: {}", found.as_str())));
-        }
+        let found = login(rt.alloc(), kept, given)?;
+        assert_eq!(rt; found.as_str(), *wanted);
     }
     Ok(())
 }
