@@ -11,3 +11,5 @@ mod moving;
 mod renewing;
 #[cfg(test)]
 mod retiring;
+#[cfg(test)]
+mod servers;

@@ -1,10 +1,10 @@
 //! Sessions that leave a pool, and that come into one, over links in memory.
 
-use crate::failing::{
-    Ended, Numbers, Server, Setting, cause_word, check_leases, dialer_to, new_setting, numbers,
-    pool_over,
+use crate::failing::{Ended, check_leases};
+use crate::servers::{
+    DISCARDED, DONE, ERROR, IDLE, Numbers, OPEN, SILENT, Server, Setting, WELCOME, cause_words,
+    error_name, new_setting, numbers,
 };
-use crate::lending::{DISCARDED, DONE, ERROR, IDLE, OPEN, WELCOME, error_name};
 use pgw_client::{Config, MemoryDialer, MemoryLink};
 use pgw_pool::{DropCause, Pool, Spare};
 use std::alloc::Global;
@@ -29,7 +29,7 @@ fn put_back(pool: &mut Pool<MemoryLink>, spare: Spare<MemoryLink>) -> Moved {
 
 // Tells the pool that the session of a lease was let go.
 fn lost(pool: &mut Pool<MemoryLink>, cause: DropCause) -> Moved {
-    let word = cause_word(&cause);
+    let (_, word) = cause_words(&cause);
     drop(cause);
     pool.lose();
     (0, word, numbers(pool))
@@ -38,16 +38,21 @@ fn lost(pool: &mut Pool<MemoryLink>, cause: DropCause) -> Moved {
 // How many leases a pool has lent, what it holds while one is reset, and what becomes of its session.
 type Reset = (u64, Numbers, Moved);
 
+// Puts the session of a lease that was reset back, or loses it.
+fn moved(pool: &mut Pool<MemoryLink>, ended: Result<Spare<MemoryLink>, DropCause>) -> Moved {
+    match ended {
+        Ok(spare) => put_back(pool, spare),
+        Err(cause) => lost(pool, cause),
+    }
+}
+
 // Takes a lease, and resets it.
 fn reset_once(pool: &mut Pool<MemoryLink>) -> Reset {
     match pool.lend() {
         Ok(lease) => {
             let ended = lease.reset();
             let between = numbers(pool);
-            match ended {
-                Ok(spare) => (pool.lent(), between, put_back(pool, spare)),
-                Err(cause) => (pool.lent(), between, lost(pool, cause)),
-            }
+            (pool.lent(), between, moved(pool, ended))
         }
         Err(_) => (pool.lent(), numbers(pool), (0, "none", numbers(pool))),
     }
@@ -69,14 +74,16 @@ const RESETS: &[Reset] = &[
     (4, (0, 0, 3, 3), (0, "none", (0, 0, 3, 3))),
 ];
 
+fn check_resets<R: Abort>(rt: &R, pool: &mut Pool<MemoryLink>) {
+    for wanted in RESETS {
+        assert_eq!(rt; reset_once(pool), *wanted);
+    }
+}
+
 #[test]
 fn a_session_leaves_its_pool_for_a_reset(rt: HostRuntime) -> Result<(), Fail> {
-    let alloc = rt.alloc();
-    let config = Config::parse(alloc, "user=bob host=a")?;
-    let mut pool = pool_over(alloc, &config, RESETTING)?;
-    for wanted in RESETS {
-        assert_eq!(rt; reset_once(&mut pool), *wanted);
-    }
+    let mut setting = new_setting(rt.alloc(), 1, RESETTING, &[], 0)?;
+    check_resets(&rt, &mut setting.pool);
     Ok(())
 }
 
@@ -115,7 +122,7 @@ const LOST: &[Ended] = &[("end", "Failed: broken", (0, 0, 1, 1))];
 const LATE: &[Server] = &[
     (&[ERROR], 0, 0),
     (&[WELCOME, DONE, IDLE, DISCARDED, IDLE], 0, 0),
-    (&[WELCOME], 0, 0),
+    SILENT,
 ];
 
 const CONNECTED: &[Moved] = &[
@@ -139,26 +146,21 @@ fn check_connected<R: Abort>(
     }
 }
 
-fn connect_late<R: Abort>(
-    rt: &R,
-    alloc: Global,
-    config: &Config,
-    pool: &mut Pool<MemoryLink>,
-) -> Result<(), Fail> {
-    let mut dialer = dialer_to(alloc, LATE, 1)?;
-    check_connected(rt, alloc, config, pool, &mut dialer);
-    Ok(())
-}
-
-fn lose_and_connect<R: Abort>(rt: &R, alloc: Global, setting: &Setting) -> Result<(), Fail> {
-    let mut pool = pool_over(alloc, &setting.config, &[(&[WELCOME], 0, 0)])?;
-    check_leases(rt, &mut pool, &setting.request, LOST);
-    let connected = connect_late(rt, alloc, &setting.config, &mut pool);
-    check_leases(rt, &mut pool, &setting.request, LENT);
-    connected
+fn check_lost_and_connected<R: Abort>(rt: &R, alloc: Global, setting: &mut Setting) {
+    check_leases(rt, &mut setting.pool, &setting.request, LOST);
+    check_connected(
+        rt,
+        alloc,
+        &setting.config,
+        &mut setting.pool,
+        &mut setting.dialer,
+    );
+    check_leases(rt, &mut setting.pool, &setting.request, LENT);
 }
 
 #[test]
 fn a_session_comes_into_a_pool(rt: HostRuntime) -> Result<(), Fail> {
-    lose_and_connect(&rt, rt.alloc(), &new_setting(rt.alloc())?)
+    let mut setting = new_setting(rt.alloc(), 1, &[SILENT], LATE, 1)?;
+    check_lost_and_connected(&rt, rt.alloc(), &mut setting);
+    Ok(())
 }

@@ -1,29 +1,24 @@
 //! Sessions whose leases are counted, and that are retired by their count, over links in memory.
 
-use crate::lending::{DISCARDED, IDLE, links_to, returned_name, start};
-use pgw_client::{Config, Listed, MemoryDialer, MemoryLink, PgWireClientResult};
+use crate::servers::{
+    CUT, DISCARDED, IDLE, SILENT, Server, Setting, WELCOME, lease_once, new_setting, returned_words,
+};
+use pgw_client::{Config, MemoryDialer, MemoryLink, PgWireClientResult};
 use pgw_pool::{LeaseEnd, Pool};
-use std::alloc::Global;
 use std::process::Abort;
 use std::test::Fail;
 
-// Lends a session and gives it back: the lease's number, how many its session has had, and what
-// became of it.
-fn counted_once(pool: &mut Pool<MemoryLink>) -> (u64, u64, &'static str) {
-    match pool.lend() {
-        Ok(lease) => {
-            let number = lease.number();
-            let leases = lease.leases();
-            let returned = pool.give_back(lease);
-            let name = returned_name(&returned);
-            drop(returned);
-            (number, leases, name)
-        }
-        Err(_) => (0, 0, "none"),
-    }
-}
+// Of two sessions one answers three resets, and the other one.
+const RESETTING: &[Server] = &[
+    (
+        &[WELCOME, DISCARDED, IDLE, DISCARDED, IDLE, DISCARDED, IDLE],
+        0,
+        0,
+    ),
+    (&[WELCOME, DISCARDED, IDLE], 0, 0),
+];
 
-// Of two sessions, of which one answers three resets, and the other one.
+// The number of a lease, how many its session has had, and what became of the session.
 const COUNTED: &[(u64, u64, &str)] = &[
     (1, 1, "kept"),
     (2, 1, "kept"),
@@ -34,23 +29,23 @@ const COUNTED: &[(u64, u64, &str)] = &[
     (0, 0, "none"),
 ];
 
+fn check_counts<R: Abort>(rt: &R, pool: &mut Pool<MemoryLink>) {
+    for wanted in COUNTED {
+        let seen = lease_once(pool, None);
+        assert_eq!(rt; (seen.number, seen.leases, seen.end.0), *wanted);
+    }
+}
+
 #[test]
 fn leases_are_counted(rt: HostRuntime) -> Result<(), Fail> {
-    let alloc = rt.alloc();
-    let servers: &[&[&[u8]]] = &[
-        &[DISCARDED, IDLE, DISCARDED, IDLE, DISCARDED, IDLE],
-        &[DISCARDED, IDLE],
-    ];
-    let mut pool = start(alloc, servers)?;
-    for wanted in COUNTED {
-        assert_eq!(rt; counted_once(&mut pool), *wanted);
-    }
+    let mut setting = new_setting(rt.alloc(), CUT, RESETTING, &[], 0)?;
+    check_counts(&rt, &mut setting.pool);
     Ok(())
 }
 
 fn end_name(end: &LeaseEnd) -> &'static str {
     match end {
-        LeaseEnd::GivenBack(returned) => returned_name(returned),
+        LeaseEnd::GivenBack(returned) => returned_words(returned).0,
         LeaseEnd::Retired(Ok(())) => "retired",
         LeaseEnd::Retired(Err(_)) => "retired at once",
     }
@@ -93,14 +88,8 @@ fn check_ends<R: Abort>(rt: &R, pool: &mut Pool<MemoryLink>, dialer: &mut Memory
 
 #[test]
 fn leases_end_within_a_count(rt: HostRuntime) -> Result<(), Fail> {
-    let alloc = rt.alloc();
-    let mut dialer = MemoryDialer::new(links_to(alloc, &[])?, Listed::new(alloc));
-    let servers: &[&[&[u8]]] = &[
-        &[DISCARDED, IDLE, DISCARDED, IDLE, DISCARDED, IDLE],
-        &[DISCARDED, IDLE],
-    ];
-    let mut pool = start(alloc, servers)?;
-    check_ends(&rt, &mut pool, &mut dialer);
+    let mut setting = new_setting(rt.alloc(), CUT, RESETTING, &[], 0)?;
+    check_ends(&rt, &mut setting.pool, &mut setting.dialer);
     Ok(())
 }
 
@@ -129,30 +118,20 @@ fn renewed(
 // How many leases the session has had, and how many were connected by then.
 const RENEWED: &[(u64, u64)] = &[(1, 1), (2, 2), (1, 2), (2, 3)];
 
-fn check_renewed<R: Abort>(
-    rt: &R,
-    pool: &mut Pool<MemoryLink>,
-    config: &Config,
-    dialer: &mut MemoryDialer,
-) {
-    for (leases, connected) in RENEWED {
-        let was = renewed(pool, 2, config, dialer);
-        assert_eq!(rt; was.unwrap_or(0), *leases);
-        assert_eq!(rt; pool.connected(), *connected);
+fn check_renewed<R: Abort>(rt: &R, setting: &mut Setting) {
+    for wanted in RENEWED {
+        let was = renewed(&mut setting.pool, 2, &setting.config, &mut setting.dialer);
+        let leases = was.unwrap_or(0);
+        assert_eq!(rt; (leases, setting.pool.connected()), *wanted);
     }
-    assert_eq!(rt; pool.dropped(), 2);
-}
-
-fn renew<R: Abort>(rt: &R, alloc: Global, pool: &mut Pool<MemoryLink>) -> Result<(), Fail> {
-    let config = Config::parse(alloc, "user=bob host=a")?;
-    let late: &[&[&[u8]]] = &[&[DISCARDED, IDLE], &[]];
-    let mut dialer = MemoryDialer::new(links_to(alloc, late)?, Listed::new(alloc));
-    check_renewed(rt, pool, &config, &mut dialer);
-    Ok(())
+    assert_eq!(rt; setting.pool.dropped(), 2);
 }
 
 #[test]
 fn a_session_that_grew_old_is_replaced(rt: HostRuntime) -> Result<(), Fail> {
-    let mut pool = start(rt.alloc(), &[&[DISCARDED, IDLE]])?;
-    renew(&rt, rt.alloc(), &mut pool)
+    let answering: Server = (&[WELCOME, DISCARDED, IDLE], 0, 0);
+    let later: &[Server] = &[answering, SILENT];
+    let mut setting = new_setting(rt.alloc(), CUT, &[answering], later, 0)?;
+    check_renewed(&rt, &mut setting);
+    Ok(())
 }

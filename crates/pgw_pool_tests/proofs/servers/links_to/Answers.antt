@@ -3,7 +3,7 @@ use Rattle.std.specs.List.{All}
 use Rattle.std.proofs.lemmas.List.Elements.{All-push}
 use Rattle.pgw_link.specs.declared.memory.MemoryLink.{MemoryLink}
 use Rattle.pgw_link.specs.MemoryLinks.{IsUnused}
-use Rattle.pgw_pool_tests.proofs.failing.links_to.Goals as goal
+use Rattle.pgw_pool_tests.proofs.servers.links_to.Goals as goal
 
 pub loop-server-preserved : goal.loop-server-preserved
 loop-server-preserved c =
