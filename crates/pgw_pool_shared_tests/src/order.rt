@@ -3,6 +3,7 @@
 use crate::servers::{DISCARDED, start};
 use pgw_client::MemoryLink;
 use pgw_pool_shared::{LendRefusal, SharedPool};
+use std::process::Abort;
 use std::sync::{Mutex, Wait};
 use std::test::Fail;
 use std::thread;
@@ -33,18 +34,20 @@ fn until_noted<R: Wait + Clock>(rt: &R, noted: &Mutex<Vec<u8>>, count: usize) {
     }
 }
 
+fn note<R: Wait>(rt: &R, noted: &Mutex<Vec<u8>>, name: u8) {
+    let _noted = noted.lock(rt).push(name);
+}
+
 // Notes its name when it is served, or a number above 10 when it is refused for the time. The name 2
 // gives up early.
 fn visit<R: Wait + Clock>(rt: &R, pool: &SharedPool<MemoryLink>, noted: &Mutex<Vec<u8>>, name: u8) {
     let time = Duration::from_millis(if name == 2 { SHORT } else { LONG });
     match pool.lend(rt, Some(time)) {
         Ok(lease) => {
-            let _noted = noted.lock(rt).push(name);
+            note(rt, noted, name);
             drop(pool.give_back(rt, lease));
         }
-        Err(LendRefusal::TimedOut) => {
-            let _noted = noted.lock(rt).push(name.saturating_add(10));
-        }
+        Err(LendRefusal::TimedOut) => note(rt, noted, name.saturating_add(10)),
         Err(_) => {}
     }
 }
@@ -74,14 +77,17 @@ fn come<R: Threads + Wait + Clock + Sync>(
     });
 }
 
+fn check_order<R: Abort>(rt: &R, noted: &[u8], ready: usize) {
+    assert_eq!(rt; noted, [12, 1, 3, 4].as_slice());
+    assert_eq!(rt; ready, 1);
+}
+
 #[test]
 fn who_came_first_is_served_first(rt: HostRuntime) -> Result<(), Fail> {
-    let alloc = rt.alloc();
-    let pool = start(alloc, &[(DISCARDED, 4)], 4)?;
-    let noted = Mutex::new(Vec::new(alloc));
+    let pool = start(rt.alloc(), &[(DISCARDED, 4)], 4)?;
+    let noted = Mutex::new(Vec::new(rt.alloc()));
     come(&rt, &pool, &noted);
-    assert_eq!(rt; noted.into_inner().as_slice(), [12, 1, 3, 4].as_slice());
-    assert_eq!(rt; pool.numbers(&rt).ready, 1);
+    check_order(&rt, noted.into_inner().as_slice(), pool.numbers(&rt).ready);
     Ok(())
 }
 
@@ -116,15 +122,34 @@ fn refused<R: Wait + Clock>(
     }
 }
 
+// Of two pools, each of one session, for which in the second nobody may wait.
+fn check_refusals<R: Abort + Wait + Clock>(
+    rt: &R,
+    pool: &SharedPool<MemoryLink>,
+    crowded: &SharedPool<MemoryLink>,
+) {
+    let short = Some(Duration::from_millis(SHORT));
+    let came = [
+        refusal(rt, pool, None),
+        refused(rt, pool, short),
+        refusal(rt, pool, short),
+        refused(rt, crowded, None),
+    ];
+    assert_eq!(rt;
+        came,
+        [
+            None,
+            Some(LendRefusal::TimedOut),
+            None,
+            Some(LendRefusal::Crowded)
+        ]
+    );
+}
+
 #[test]
 fn who_waits_too_long_is_refused(rt: HostRuntime) -> Result<(), Fail> {
-    let alloc = rt.alloc();
-    let short = Some(Duration::from_millis(SHORT));
-    let pool = start(alloc, &[(DISCARDED, 4)], 1)?;
-    assert_eq!(rt; refusal(&rt, &pool, None), None);
-    assert_eq!(rt; refused(&rt, &pool, short), Some(LendRefusal::TimedOut));
-    assert_eq!(rt; refusal(&rt, &pool, short), None);
-    let crowded = start(alloc, &[(DISCARDED, 4)], 0)?;
-    assert_eq!(rt; refused(&rt, &crowded, None), Some(LendRefusal::Crowded));
+    let pool = start(rt.alloc(), &[(DISCARDED, 4)], 1)?;
+    let crowded = start(rt.alloc(), &[(DISCARDED, 4)], 0)?;
+    check_refusals(&rt, &pool, &crowded);
     Ok(())
 }

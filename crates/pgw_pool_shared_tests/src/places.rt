@@ -3,6 +3,7 @@
 use crate::servers::{DISCARDED, REFUSED, config, dialer_to, name, refill, start};
 use pgw_client::{Config, MemoryDialer, MemoryLink};
 use pgw_pool_shared::SharedPool;
+use std::process::Abort;
 use std::sync::Wait;
 use std::sync::atomic::{AtomicU64, Ordering};
 use std::test::Fail;
@@ -28,24 +29,43 @@ fn lease_once<R: Wait + Clock>(
     }
 }
 
+fn check_places<R: Abort + Wait + Clock>(
+    rt: &R,
+    pool: &SharedPool<MemoryLink>,
+    config: &Config,
+    dialer: &mut MemoryDialer,
+) {
+    let none = Some(Duration::ZERO);
+    let came = (
+        refill(rt, pool, config, dialer),
+        lease_once(rt, pool, none),
+        lease_once(rt, pool, none),
+        refill(rt, pool, config, dialer),
+        pool.numbers(rt).out,
+    );
+    assert_eq!(rt; came, ("full", (1, "refused"), (0, "none"), "failed", 0));
+    let came = (
+        refill(rt, pool, config, dialer),
+        refill(rt, pool, config, dialer),
+        lease_once(rt, pool, none),
+    );
+    assert_eq!(rt; came, ("added", "full", (2, "kept")));
+}
+
+// How many sessions were connected, and how many dropped.
+fn counts(pool: SharedPool<MemoryLink>) -> (u64, u64) {
+    let pool = pool.into_pool();
+    (pool.connected(), pool.dropped())
+}
+
 #[test]
 fn a_place_that_is_free_is_filled(rt: HostRuntime) -> Result<(), Fail> {
     let alloc = rt.alloc();
-    let none = Some(Duration::ZERO);
-    let pool = start(alloc, &[(REFUSED, 1)], 1)?;
-    let mut dialer = dialer_to(alloc, &[(DISCARDED, 2)], Some(1))?;
     let config = config(alloc)?;
-    assert_eq!(rt; refill(&rt, &pool, &config, &mut dialer), "full");
-    assert_eq!(rt; lease_once(&rt, &pool, none), (1, "refused"));
-    assert_eq!(rt; lease_once(&rt, &pool, none), (0, "none"));
-    assert_eq!(rt; refill(&rt, &pool, &config, &mut dialer), "failed");
-    assert_eq!(rt; pool.numbers(&rt).out, 0);
-    assert_eq!(rt; refill(&rt, &pool, &config, &mut dialer), "added");
-    assert_eq!(rt; refill(&rt, &pool, &config, &mut dialer), "full");
-    assert_eq!(rt; lease_once(&rt, &pool, none), (2, "kept"));
-    let pool = pool.into_pool();
-    assert_eq!(rt; pool.connected(), 2);
-    assert_eq!(rt; pool.dropped(), 1);
+    let mut dialer = dialer_to(alloc, &[(DISCARDED, 2)], 1)?;
+    let pool = start(alloc, &[(REFUSED, 1)], 1)?;
+    check_places(&rt, &pool, &config, &mut dialer);
+    assert_eq!(rt; counts(pool), (2, 1));
     Ok(())
 }
 
@@ -76,15 +96,24 @@ fn wait_for_one<R: Threads + Wait + Clock + Sync>(
     number.load(Ordering::SeqCst)
 }
 
+fn check_waiting<R: Abort + Threads + Wait + Clock + Sync>(
+    rt: &R,
+    pool: &SharedPool<MemoryLink>,
+    config: &Config,
+    dialer: &mut MemoryDialer,
+) {
+    assert_eq!(rt; lease_once(rt, pool, None), (1, "refused"));
+    let number = wait_for_one(rt, pool, config, dialer);
+    assert_eq!(rt; (number, pool.numbers(rt).ready), (2, 1));
+}
+
 #[test]
 fn who_waits_gets_the_session_that_is_connected(rt: HostRuntime) -> Result<(), Fail> {
     let alloc = rt.alloc();
-    let pool = start(alloc, &[(REFUSED, 1)], 1)?;
-    let mut dialer = dialer_to(alloc, &[(DISCARDED, 1)], None)?;
     let config = config(alloc)?;
-    assert_eq!(rt; lease_once(&rt, &pool, None), (1, "refused"));
-    assert_eq!(rt; wait_for_one(&rt, &pool, &config, &mut dialer), 2);
-    assert_eq!(rt; pool.numbers(&rt).ready, 1);
+    let mut dialer = dialer_to(alloc, &[(DISCARDED, 1)], 0)?;
+    let pool = start(alloc, &[(REFUSED, 1)], 1)?;
+    check_waiting(&rt, &pool, &config, &mut dialer);
     Ok(())
 }
 
@@ -105,13 +134,20 @@ fn given_elsewhere<R: Wait + Clock>(
     }
 }
 
+fn check_foreign<R: Abort + Wait + Clock>(
+    rt: &R,
+    pool: &SharedPool<MemoryLink>,
+    other: &SharedPool<MemoryLink>,
+) {
+    let became = given_elsewhere(rt, pool, other);
+    let numbers = other.numbers(rt);
+    assert_eq!(rt; (became, numbers.ready, numbers.out), ("foreign", 1, 0));
+}
+
 #[test]
 fn a_lease_of_another_pool_is_let_go(rt: HostRuntime) -> Result<(), Fail> {
-    let alloc = rt.alloc();
-    let pool = start(alloc, &[(DISCARDED, 1)], 1)?;
-    let other = start(alloc, &[(DISCARDED, 1)], 1)?;
-    assert_eq!(rt; given_elsewhere(&rt, &pool, &other), "foreign");
-    assert_eq!(rt; other.numbers(&rt).ready, 1);
-    assert_eq!(rt; other.numbers(&rt).out, 0);
+    let pool = start(rt.alloc(), &[(DISCARDED, 1)], 1)?;
+    let other = start(rt.alloc(), &[(DISCARDED, 1)], 1)?;
+    check_foreign(&rt, &pool, &other);
     Ok(())
 }

@@ -2,7 +2,9 @@
 ghost use Rattle.std.specs.Prelude.{All, IfOk};
 ghost use Rattle.pgw_link.specs.MemoryLinks.{IsUnused};
 
-use pgw_client::{Config, Listed, MemoryDialer, MemoryLink, Octets, OutOfMemory};
+use pgw_client::{
+    Config, Listed, MemoryDialer, MemoryLink, Octets, OutOfMemory, PgWireClientResult,
+};
 use pgw_pool_shared::{DropCause, GivenBack, Refilled, SharedPool};
 use std::alloc::Global;
 use std::sync::Wait;
@@ -19,6 +21,9 @@ pub(crate) const DISCARDED: &[u8] = b"C\0\0\0\x10DISCARD ALL\0Z\0\0\0\x05I";
 
 /// A reset is refused.
 pub(crate) const REFUSED: &[u8] = b"E\0\0\0\x19SERROR\0CXX000\0Mboom\0\0Z\0\0\0\x05I";
+
+// More nonces than any test has servers.
+const NONCES: &[[u8; 18]] = &[[0; 18]; 8];
 
 // What a server says: behind its welcome so many times the same.
 type Said = (&'static [u8], usize);
@@ -47,16 +52,14 @@ fn links_to(alloc: Global, servers: &[Said]) -> Result<Listed<MemoryLink>, OutOf
     Ok(links)
 }
 
-/// A dialer to these servers, one behind the other. The dial with this number fails.
+/// A dialer to these servers, one behind the other. The dial with this number fails, from 1 on.
 pub(crate) fn dialer_to(
     alloc: Global,
     servers: &[Said],
-    fails: Option<u64>,
+    failing_dial: u64,
 ) -> Result<MemoryDialer, OutOfMemory> {
     let mut fail_dials = Listed::new(alloc);
-    if let Some(number) = fails {
-        fail_dials.push(number)?;
-    }
+    fail_dials.push(failing_dial)?;
     Ok(MemoryDialer::new(links_to(alloc, servers)?, fail_dials))
 }
 
@@ -70,15 +73,19 @@ pub(crate) fn start(
     servers: &[Said],
     room_to_wait: usize,
 ) -> Result<SharedPool<MemoryLink>, Fail> {
-    let mut nonces: Vec<[u8; 18]> = Vec::new(alloc);
-    for _ in servers {
-        nonces.push([0; 18])?;
-    }
-    let mut dialer = dialer_to(alloc, servers, None)?;
+    let nonces = NONCES.get(..servers.len()).unwrap_or(NONCES);
     let config = config(alloc)?;
-    match SharedPool::start(alloc, &config, &nonces, 10_000, &mut dialer, room_to_wait) {
-        Ok(pool) => Ok(pool),
-        Err(_) => Err("not started".into()),
+    let mut dialer = dialer_to(alloc, servers, 0)?;
+    let started = SharedPool::start(alloc, &config, nonces, 10_000, &mut dialer, room_to_wait);
+    Ok(started.ok().ok_or("not started")?)
+}
+
+fn refill_name(came: &PgWireClientResult<Refilled>) -> &'static str {
+    match came {
+        Ok(Refilled::Added) => "added",
+        Ok(Refilled::Full) => "full",
+        Ok(Refilled::Displaced) => "displaced",
+        Err(_) => "failed",
     }
 }
 
@@ -89,12 +96,8 @@ pub(crate) fn refill<R: Wait>(
     config: &Config,
     dialer: &mut MemoryDialer,
 ) -> &'static str {
-    match pool.refill(rt, config, [1; 18], 10_000, dialer) {
-        Ok(Refilled::Added) => "added",
-        Ok(Refilled::Full) => "full",
-        Ok(Refilled::Displaced) => "displaced",
-        Err(_) => "failed",
-    }
+    let came = pool.refill(rt, config, [1; 18], 10_000, dialer);
+    refill_name(&came)
 }
 
 /// What became of a session, by name.
