@@ -8,7 +8,6 @@ use pgw_client_ask::ask;
 use pgw_client_calls::PgWireClient;
 use pgw_handlers_default::DefaultStartupHandler;
 use std::alloc::Global;
-use std::process::Abort;
 use std::test::Fail;
 
 type Client = PgWireClient<MemoryLink>;
@@ -37,7 +36,6 @@ const ERROR: &[u8] = b"E\0\0\0\x19SERROR\0CXX000\0Mboom\0\0";
 const READY: &[u8] = b"Z\0\0\0\x05I";
 
 // What is asked.
-#[derive(Clone, Copy)]
 enum Kind {
     Simple,
     Prepare,
@@ -49,43 +47,54 @@ enum Kind {
     Query,
 }
 
+// What comes of a request, how many of them, and whether the client is usable behind it.
+type Outcome = (&'static str, usize, bool);
+
 // What is asked, what the server says of it, and what comes of it.
-type Case = (Kind, &'static [&'static [u8]], &'static str);
+type Case = (Kind, &'static [&'static [u8]], Outcome);
 
 const CASES: &[Case] = &[
     (
         Kind::Simple,
         &[COLUMNS, ROW, COMPLETE, COMPLETE, READY],
-        "responses 2, usable",
+        ("responses", 2, true),
     ),
     (
         Kind::Prepare,
         &[PARSED, TYPES, COLUMNS, READY],
-        "prepared named 1, usable",
+        ("prepared named", 1, true),
     ),
-    (Kind::Bind, &[BOUND], "bound, usable"),
-    (Kind::Execute, &[ROW, ROW, SUSPENDED], "suspended 2, usable"),
-    (Kind::Execute, &[ROW, COMPLETE, READY], "complete 1, usable"),
+    (Kind::Bind, &[BOUND], ("bound", 0, true)),
+    (
+        Kind::Execute,
+        &[ROW, ROW, SUSPENDED],
+        ("suspended", 2, true),
+    ),
+    (
+        Kind::Execute,
+        &[ROW, COMPLETE, READY],
+        ("complete", 1, true),
+    ),
     (
         Kind::DescribeStatement,
         &[TYPES, COLUMNS, READY],
-        "described with types 1, usable",
+        ("described with types", 1, true),
     ),
-    (Kind::DescribePortal, &[COLUMNS], "described 1, usable"),
-    (Kind::Close, &[CLOSED, READY], "closed, usable"),
+    (Kind::DescribePortal, &[COLUMNS], ("described", 1, true)),
+    (Kind::Close, &[CLOSED, READY], ("closed", 0, true)),
     (
         Kind::Query,
         &[PARSED, BOUND, ROW, ROW, COMPLETE, READY],
-        "rows 2, usable",
+        ("rows", 2, true),
     ),
-    (Kind::Simple, &[ERROR, READY], "remote, usable"),
-    (Kind::Bind, &[ERROR, READY], "remote, usable"),
-    (Kind::Query, &[ERROR], "remote error, broken"),
-    (Kind::Prepare, &[PARSED], "end, broken"),
-    (Kind::Close, &[BOUND, READY], "unexpected, broken"),
+    (Kind::Simple, &[ERROR, READY], ("remote", 0, true)),
+    (Kind::Bind, &[ERROR, READY], ("remote", 0, true)),
+    (Kind::Query, &[ERROR], ("remote error", 0, false)),
+    (Kind::Prepare, &[PARSED], ("end", 0, false)),
+    (Kind::Close, &[BOUND, READY], ("unexpected", 0, false)),
 ];
 
-fn request_of(alloc: Global, kind: Kind) -> Result<Request, OutOfMemory> {
+fn request_of(alloc: Global, kind: &Kind) -> Result<Request, OutOfMemory> {
     match kind {
         Kind::Simple => Request::simple(alloc, "SELECT 1; SELECT 1"),
         Kind::Prepare => Request::prepare(alloc, "s", "SELECT $1"),
@@ -108,76 +117,63 @@ fn error_name(error: &PgWireClientError) -> &'static str {
     }
 }
 
-// A number from 0 to 2.
-fn count_name(count: usize) -> &'static str {
-    match count {
-        0 => "0",
-        1 => "1",
-        2 => "2",
-        _ => "more",
+// How an answer that gives rows is called, and how many it gives.
+fn executed_name(executed: &ExecuteResult<DataRows>) -> (&'static str, usize) {
+    match executed {
+        ExecuteResult::Suspended(rows) => ("suspended", rows.len()),
+        ExecuteResult::Complete(rows) => ("complete", rows.len()),
     }
 }
 
-// How an answer that gives rows is called.
-fn executed_name(executed: &ExecuteResult<DataRows>) -> (&'static str, &'static str) {
-    match executed {
-        ExecuteResult::Suspended(rows) => ("suspended ", count_name(rows.len())),
-        ExecuteResult::Complete(rows) => ("complete ", count_name(rows.len())),
+fn prepared_name(has_name: bool) -> &'static str {
+    if has_name {
+        "prepared named"
+    } else {
+        "prepared"
+    }
+}
+
+fn described_name(has_types: bool) -> &'static str {
+    if has_types {
+        "described with types"
+    } else {
+        "described"
     }
 }
 
 // How an answer is called, and what it counts.
-fn answer_name(answer: &Answer) -> (&'static str, &'static str) {
+fn answer_name(answer: &Answer) -> (&'static str, usize) {
     match answer {
-        Answer::Responses(responses) => ("responses ", count_name(responses.as_slice().len())),
-        Answer::Prepared(prepared) => match &prepared.name {
-            Some(_) => (
-                "prepared named ",
-                count_name(prepared.param_types.as_slice().len()),
-            ),
-            None => (
-                "prepared ",
-                count_name(prepared.param_types.as_slice().len()),
-            ),
-        },
-        Answer::Bound => ("bound", ""),
+        Answer::Responses(responses) => ("responses", responses.as_slice().len()),
+        Answer::Prepared(prepared) => (
+            prepared_name(prepared.name.is_some()),
+            prepared.param_types.as_slice().len(),
+        ),
+        Answer::Bound => ("bound", 0),
         Answer::Executed(executed) => executed_name(executed),
-        Answer::Described(described) => match described.param_types.is_empty() {
-            true => ("described ", count_name(described.fields.as_slice().len())),
-            false => (
-                "described with types ",
-                count_name(described.fields.as_slice().len()),
-            ),
-        },
-        Answer::Closed => ("closed", ""),
-        Answer::Rows(rows) => ("rows ", count_name(rows.len())),
-        Answer::Remote(_) => ("remote", ""),
+        Answer::Described(described) => (
+            described_name(!described.param_types.is_empty()),
+            described.fields.as_slice().len(),
+        ),
+        Answer::Closed => ("closed", 0),
+        Answer::Rows(rows) => ("rows", rows.len()),
+        Answer::Remote(_) => ("remote", 0),
     }
 }
 
-fn came_name(came: &PgWireClientResult<Answer>) -> (&'static str, &'static str) {
+fn came_name(came: &PgWireClientResult<Answer>) -> (&'static str, usize) {
     match came {
         Ok(answer) => answer_name(answer),
-        Err(error) => (error_name(error), ""),
+        Err(error) => (error_name(error), 0),
     }
 }
 
 // Asks a request, and tells what came of it and whether the client can still be used.
-fn asked(alloc: Global, client: &mut Client, kind: Kind) -> Result<String, Fail> {
-    let request = request_of(alloc, kind)?;
-    let came = ask(client, &request);
+fn asked(client: &mut Client, request: &Request) -> Outcome {
+    let came = ask(client, request);
     let (name, count) = came_name(&came);
     drop(came);
-    drop(request);
-    let mut text = String::new(alloc);
-    text.push_str(name)?;
-    text.push_str(count)?;
-    text.push_str(if client.is_broken() {
-        ", broken"
-    } else {
-        ", usable"
-    })?;
-    Ok(text)
+    (name, count, !client.is_broken())
 }
 
 // A dialer of one link, to a server that says these pieces.
@@ -187,38 +183,30 @@ fn dialer_to(alloc: Global, pieces: &[&[u8]]) -> Result<MemoryDialer, OutOfMemor
     for piece in pieces {
         said.extend_from_slice(piece)?;
     }
-    let server = Octets::from_slice(alloc, &said)?;
+    let server = Octets::from_vec(said)?;
     let mut links = Listed::new(alloc);
     links.push(MemoryLink::new(alloc, server, 30, Listed::new(alloc), Listed::new(alloc)))?;
     Ok(MemoryDialer::new(links, Listed::new(alloc)))
 }
 
-fn connected(alloc: Global, pieces: &[&[u8]]) -> Result<Option<Client>, Fail> {
-    let mut dialer = dialer_to(alloc, pieces)?;
+fn connected(alloc: Global, pieces: &[&[u8]]) -> Result<Client, Fail> {
     let config = Config::parse(alloc, "user=bob host=a")?;
+    let mut dialer = dialer_to(alloc, pieces)?;
     let handler = DefaultStartupHandler::new([0; 18]);
-    let client = PgWireClient::connect(alloc, config, handler, &mut dialer, 10_000).ok();
-    drop(dialer);
-    Ok(client)
+    let client = PgWireClient::connect(alloc, config, handler, &mut dialer, 10_000);
+    Ok(client.ok().ok_or("no client")?)
 }
 
-fn check<R: Abort>(rt: &R, alloc: Global, case: Case) -> Result<(), Fail> {
-    let (kind, pieces, wanted) = case;
-    match connected(alloc, pieces)? {
-        Some(mut client) => {
-            let text = asked(alloc, &mut client, kind);
-            drop(client);
-            assert_eq!(rt; text?.as_str(), wanted);
-            Ok(())
-        }
-        None => Err(Fail::new(format_args!("no client"))),
-    }
+fn outcome(alloc: Global, kind: &Kind, pieces: &[&[u8]]) -> Result<Outcome, Fail> {
+    let request = request_of(alloc, kind)?;
+    let mut client = connected(alloc, pieces)?;
+    Ok(asked(&mut client, &request))
 }
 
 #[test]
 fn requests_are_answered(rt: HostRuntime) -> Result<(), Fail> {
-    for case in CASES {
-        check(&rt, rt.alloc(), *case)?;
+    for (kind, pieces, wanted) in CASES {
+        assert_eq!(rt; outcome(rt.alloc(), kind, pieces)?, *wanted);
     }
     Ok(())
 }

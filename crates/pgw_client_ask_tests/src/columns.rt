@@ -3,6 +3,7 @@
 use pgw_client::{FieldFormat, FieldInfo, Listed, OutOfMemory, PgType, Text};
 use pgw_client_ask::column;
 use std::alloc::Global;
+use std::process::Abort;
 use std::test::Fail;
 
 const NAMES: &[&str] = &["a", "b", "a", "", "größe"];
@@ -38,12 +39,16 @@ fn fields(alloc: Global) -> Result<Listed<FieldInfo>, OutOfMemory> {
     Ok(fields)
 }
 
+fn check_columns<R: Abort>(rt: &R, fields: &[FieldInfo]) {
+    for case in CASES {
+        let (name, _) = *case;
+        assert_eq!(rt; (name, column(fields, name)), *case);
+    }
+}
+
 #[test]
 fn columns_are_found(rt: HostRuntime) -> Result<(), Fail> {
     let fields = fields(rt.alloc())?;
-    for case in CASES {
-        let (name, place) = *case;
-        assert_eq!(rt; column(fields.as_slice(), name), place, "{name}");
-    }
+    check_columns(&rt, fields.as_slice());
     Ok(())
 }
