@@ -2,7 +2,7 @@
 ghost use Rattle.std.specs.Prelude.{◌≡◌, ◌≤◌, ◌+◌, ◌++◌, ◌∷◌, [], IfOk};
 ghost use Rattle.std.specs.VecDeque.{deque_len, deque_capacity};
 
-use pgw_pool_turns::Stock;
+use pgw_pool_turns::{Stock, Turns};
 use std::alloc::{AllocError, Global};
 use std::collections::VecDeque;
 
@@ -38,6 +38,17 @@ impl Things {
             most,
         })
     }
+}
+
+/// Turns over these, for which so many may wait.
+pub(crate) fn turns_over(
+    alloc: Global,
+    count: usize,
+    most: usize,
+    room_to_wait: usize,
+) -> Result<Turns<Things>, AllocError> {
+    let things = Things::new(alloc, count, most)?;
+    Turns::new(alloc, things, room_to_wait)
 }
 
 impl Stock for Things {

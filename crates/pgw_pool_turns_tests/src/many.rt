@@ -1,7 +1,8 @@
 //! Many threads over few things.
 
-use crate::counters::Things;
+use crate::counters::{Things, turns_over};
 use pgw_pool_turns::{Numbers, Turns};
+use std::alloc::{AllocError, Global};
 use std::process::Abort;
 use std::sync::Wait;
 use std::sync::atomic::{AtomicU64, Ordering};
@@ -18,6 +19,19 @@ struct Seen {
     held: Vec<AtomicU64>,
     twice: AtomicU64,
     leases: AtomicU64,
+}
+
+// Of three things.
+fn new_seen(alloc: Global) -> Result<Seen, AllocError> {
+    let mut held = Vec::new(alloc);
+    for _ in 0..3 {
+        held.push(AtomicU64::new(0))?;
+    }
+    Ok(Seen {
+        held,
+        twice: AtomicU64::new(0),
+        leases: AtomicU64::new(0),
+    })
 }
 
 impl Seen {
@@ -73,28 +87,31 @@ fn start<R: Threads + Wait + Clock + Sync>(rt: &R, turns: &Turns<Things>, seen: 
 }
 
 fn check<R: Abort>(rt: &R, numbers: Numbers, seen: &Seen) {
-    assert_eq!(rt; seen.twice.load(Ordering::SeqCst), 0);
-    assert_eq!(rt; seen.leases.load(Ordering::SeqCst), 8 * LEASES);
-    assert_eq!(rt; numbers.capacity, 3);
-    assert_eq!(rt; numbers.ready, 3);
-    assert_eq!(rt; numbers.out, 0);
-    assert_eq!(rt; numbers.waiting, 0);
+    let twice = seen.twice.load(Ordering::SeqCst);
+    let leases = seen.leases.load(Ordering::SeqCst);
+    assert_eq!(rt; (twice, leases), (0, 8 * LEASES));
+    let wanted = Numbers {
+        capacity: 3,
+        ready: 3,
+        out: 0,
+        waiting: 0,
+    };
+    assert_eq!(rt; numbers, wanted);
+}
+
+fn check_holders<R: Abort + Threads + Wait + Clock + Sync>(
+    rt: &R,
+    turns: &Turns<Things>,
+    seen: &Seen,
+) {
+    assert!(rt; start(rt, turns, seen));
+    check(rt, turns.numbers(rt), seen);
 }
 
 #[test]
 fn a_thing_has_one_holder(rt: HostRuntime) -> Result<(), Fail> {
-    let alloc = rt.alloc();
-    let turns = Turns::new(alloc, Things::new(alloc, 3, usize::MAX)?, 8)?;
-    let mut held = Vec::new(alloc);
-    for _ in 0..3 {
-        held.push(AtomicU64::new(0))?;
-    }
-    let seen = Seen {
-        held,
-        twice: AtomicU64::new(0),
-        leases: AtomicU64::new(0),
-    };
-    assert!(rt; start(&rt, &turns, &seen));
-    check(&rt, turns.numbers(&rt), &seen);
+    let turns = turns_over(rt.alloc(), 3, usize::MAX, 8)?;
+    let seen = new_seen(rt.alloc())?;
+    check_holders(&rt, &turns, &seen);
     Ok(())
 }
