@@ -10,9 +10,11 @@ use pgw_tokio::{Answered, Asking, AsyncClient};
 use pgw_types::memory::OutOfMemory;
 use pgw_types::text::Text;
 use std::alloc::{AllocGlobal, Global};
+use std::process::Abort;
 use std::random::RandomSource;
 use std::sync::Wait;
 use std::test::Fail;
+use std::thread::Threads;
 use std::{io, thread};
 use tokio::io::{DuplexStream, duplex, read_exact};
 
@@ -256,35 +258,26 @@ fn came_name(came: &PgWireClientResult<Answer>) -> (&'static str, usize) {
     }
 }
 
-// Asks a request by the call of this kind, and tells what came of it.
-fn told<R: Wait + RandomSource + AllocGlobal>(
-    rt: &R,
-    client: AsyncClient<DuplexStream>,
-    kind: Kind,
-) -> Result<Outcome, Fail> {
-    let request = request_of(rt.alloc(), kind)?;
-    let Answered { client, answer } = block_on(rt, begun(client, kind, request))?;
-    let (name, count) = came_name(&answer);
-    drop(answer);
-    let how = if client.is_usable() {
+fn outcome_of(answered: &Answered<DuplexStream>) -> Outcome {
+    let (name, count) = came_name(&answered.answer);
+    let how = if answered.client.is_usable() {
         "usable"
     } else {
         "broken"
     };
-    drop(client);
-    Ok((name, count, how))
+    (name, count, how)
 }
 
-// Logs in, and asks.
+// Logs in, asks a request by the call of this kind, and tells what came of it.
 fn asked<R: Wait + RandomSource + AllocGlobal>(
     rt: &R,
     stream: DuplexStream,
     kind: Kind,
 ) -> Result<Outcome, Fail> {
-    match logged_in(rt, stream)? {
-        Some(client) => told(rt, client, kind),
-        None => Ok(("not logged in", 0, "")),
-    }
+    let client = logged_in(rt, stream)?;
+    let request = request_of(rt.alloc(), kind)?;
+    let answered = block_on(rt, begun(client, kind, request))?;
+    Ok(outcome_of(&answered))
 }
 
 // Reads so many bytes.
@@ -316,8 +309,19 @@ fn ends<R: Wait + RandomSource + AllocGlobal>(rt: &R, stream: DuplexStream) -> i
     Ok(more.is_err())
 }
 
-// What a server heard: what opened a request, what came behind its answer, and whether that was all.
-type Heard = (Vec<u8>, Vec<u8>, bool);
+// Reads so many bytes, and whether that was all.
+fn heard_last<R: Wait + RandomSource + AllocGlobal>(
+    rt: &R,
+    stream: DuplexStream,
+    count: usize,
+) -> io::Result<(Vec<u8>, bool)> {
+    let (stream, bytes) = heard(rt, stream, count)?;
+    let is_all = ends(rt, stream)?;
+    Ok((bytes, is_all))
+}
+
+// What a server heard: what opened a request, and what came behind its answer, with whether that was all.
+type Heard = (Vec<u8>, (Vec<u8>, bool));
 
 fn served<R: Wait + RandomSource + AllocGlobal>(
     rt: &R,
@@ -327,27 +331,37 @@ fn served<R: Wait + RandomSource + AllocGlobal>(
     let stream = play_one(rt, stream, LOGIN)?;
     let (stream, opening) = heard(rt, stream, case.opening.len())?;
     let stream = say(rt, stream, case.said)?;
-    let (stream, behind) = heard(rt, stream, case.behind.len())?;
-    let is_all = ends(rt, stream)?;
-    Ok((opening, behind, is_all))
+    let last = heard_last(rt, stream, case.behind.len())?;
+    Ok((opening, last))
+}
+
+// What a server heard, and what its client tells.
+fn played<R: Threads + Wait + RandomSource + AllocGlobal + Sync>(
+    rt: &R,
+    case: Case,
+) -> Result<(Heard, Outcome), Fail> {
+    let (near, far) = duplex(rt.alloc(), 64)?;
+    let (heard, outcome) = thread::join(
+        rt,
+        move || served(rt, far, case),
+        move || asked(rt, near, case.kind),
+    );
+    let outcome = outcome?;
+    Ok((heard?, outcome))
+}
+
+fn check<R: Abort>(rt: &R, heard: &Heard, outcome: Outcome, case: &Case) {
+    let (opening, (behind, is_all)) = heard;
+    assert_eq!(rt; outcome, case.outcome);
+    assert_eq!(rt; opening.as_slice(), case.opening);
+    assert_eq!(rt; (behind.as_slice(), *is_all), (case.behind, true));
 }
 
 #[test]
 fn each_call_is_answered(rt: HostRuntime) -> Result<(), Fail> {
-    let rt = &rt;
     for case in CASES {
-        let case = *case;
-        let (near, far) = duplex(rt.alloc(), 64)?;
-        let (heard, outcome) = thread::join(
-            rt,
-            move || served(rt, far, case),
-            move || asked(rt, near, case.kind),
-        );
-        assert_eq!(rt; outcome?, case.outcome);
-        let (opening, behind, is_all) = heard?;
-        assert_eq!(rt; opening.as_slice(), case.opening);
-        assert_eq!(rt; behind.as_slice(), case.behind);
-        assert!(rt; is_all);
+        let (heard, outcome) = played(&rt, *case)?;
+        check(&rt, &heard, outcome, case);
     }
     Ok(())
 }

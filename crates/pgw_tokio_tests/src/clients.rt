@@ -1,17 +1,20 @@
 //! Requests that are asked one at a time.
+ghost use Rattle.std.specs.Prelude.{IfOk};
+ghost use Rattle.pgw_tokio.specs.Login.{StreamCanLogIn};
 
 use crate::servers::{ERROR, LOGIN, Part, ROW, play};
 use futures::executor::block_on;
+use pgw_backend::client_error::PgWireClientResult;
 use pgw_config::config::Config;
 use pgw_session::types::{Answer, Response};
-use pgw_tokio::{Answered, AsyncClient, log_in};
+use pgw_tokio::{Answered, AsyncClient, LoggingIn, log_in};
 use pgw_types::text::Text;
-use std::alloc::AllocGlobal;
+use std::alloc::{AllocGlobal, Global};
 use std::random::RandomSource;
 use std::sync::Wait;
 use std::test::Fail;
 use std::thread;
-use tokio::io::{DuplexStream, duplex};
+use tokio::io::{AsyncRead, AsyncWrite, DuplexStream, duplex};
 
 fn rows_of(responses: &[Response]) -> &'static str {
     match responses {
@@ -20,12 +23,24 @@ fn rows_of(responses: &[Response]) -> &'static str {
     }
 }
 
-// What an answer is.
-fn told(answer: &Answer) -> &'static str {
-    match answer {
-        Answer::Responses(responses) => rows_of(responses.as_slice()),
-        Answer::Remote(_) => "an error",
-        _ => "another answer",
+// What came of a query.
+fn told(came: &PgWireClientResult<Answer>) -> &'static str {
+    match came {
+        Ok(Answer::Responses(responses)) => rows_of(responses.as_slice()),
+        Ok(Answer::Remote(_)) => "an error",
+        Ok(_) => "another answer",
+        Err(_) => "refused",
+    }
+}
+
+/// Begins to log in.
+pub fn begun<S: AsyncRead + AsyncWrite>(alloc: Global, stream: S) -> Result<LoggingIn<S>, Fail>
+    ensures { IfOk result StreamCanLogIn }
+{
+    let config = Config::parse(alloc, "user=bob")?;
+    match log_in(alloc, stream, config, &[0; 18], 1000) {
+        Ok(logging_in) => Ok(logging_in),
+        Err(refused) => Err(Fail::from(refused.error)),
     }
 }
 
@@ -33,12 +48,12 @@ fn told(answer: &Answer) -> &'static str {
 pub fn logged_in<R: Wait + RandomSource + AllocGlobal>(
     rt: &R,
     stream: DuplexStream,
-) -> Result<Option<AsyncClient<DuplexStream>>, Fail> {
-    let config = Config::parse(rt.alloc(), "user=bob")?;
-    let Ok(logging_in) = log_in(rt.alloc(), stream, config, &[0; 18], 1000) else {
-        return Ok(None);
-    };
-    Ok(block_on(rt, logging_in)?.ok())
+) -> Result<AsyncClient<DuplexStream>, Fail> {
+    let logging_in = begun(rt.alloc(), stream)?;
+    match block_on(rt, logging_in)? {
+        Ok(client) => Ok(client),
+        Err(refused) => Err(Fail::from(refused.error)),
+    }
 }
 
 /// Asks a query; what its answer is.
@@ -49,21 +64,14 @@ pub fn asked<R: Wait + RandomSource + AllocGlobal>(
 ) -> Result<(AsyncClient<DuplexStream>, &'static str), Fail> {
     let query = Text::from_str(rt.alloc(), query)?;
     let Answered { client, answer } = block_on(rt, client.simple_query(query))?;
-    let told = match &answer {
-        Ok(answer) => told(answer),
-        Err(_) => "refused",
-    };
-    drop(answer);
-    Ok((client, told))
+    Ok((client, told(&answer)))
 }
 
 fn asked_three<R: Wait + RandomSource + AllocGlobal>(
     rt: &R,
     stream: DuplexStream,
 ) -> Result<(&'static str, &'static str, &'static str), Fail> {
-    let Some(client) = logged_in(rt, stream)? else {
-        return Ok(("not logged in", "", ""));
-    };
+    let client = logged_in(rt, stream)?;
     let (client, first) = asked(rt, client, "SELECT 1")?;
     let (client, second) = asked(rt, client, "SELECT 1/0")?;
     let (client, third) = asked(rt, client, "SELECT 1")?;
@@ -86,7 +94,7 @@ fn each_request_has_its_own_answer(rt: HostRuntime) -> Result<(), Fail> {
         );
         let answers = answers?;
         played?;
-        assert_eq!(rt; answers, ("one row", "an error", "one row"), "{size}");
+        assert_eq!(rt; (size, answers), (size, ("one row", "an error", "one row")));
     }
     Ok(())
 }

@@ -1,16 +1,16 @@
 //! Streams that end, and servers that say nothing.
 
-use crate::clients::{asked, logged_in};
+use crate::clients::{asked, begun, logged_in};
 use crate::servers::{BROKEN, LOGIN, Part, play, play_one};
 use futures::executor::block_on;
-use pgw_config::config::Config;
-use pgw_tokio::{cancel, log_in};
+use pgw_tokio::cancel;
 use pgw_wire::secret_key::SecretKey;
 use std::alloc::AllocGlobal;
+use std::net::Net;
 use std::random::RandomSource;
 use std::sync::Wait;
 use std::test::Fail;
-use std::time::Duration;
+use std::time::{Clock, Duration};
 use std::{io, thread};
 use tokio::io::{DuplexStream, duplex, read_exact};
 use tokio::runtime::LocalRuntime;
@@ -20,9 +20,7 @@ fn asked_twice<R: Wait + RandomSource + AllocGlobal>(
     rt: &R,
     stream: DuplexStream,
 ) -> Result<(&'static str, &'static str, bool), Fail> {
-    let Some(client) = logged_in(rt, stream)? else {
-        return Ok(("not logged in", "", true));
-    };
+    let client = logged_in(rt, stream)?;
     let (client, first) = asked(rt, client, "SELECT 1")?;
     let (client, second) = asked(rt, client, "SELECT 1")?;
     let is_usable = client.is_usable();
@@ -47,44 +45,55 @@ fn a_stream_that_ends_leaves_no_client_to_use(rt: HostRuntime) -> Result<(), Fai
     Ok(())
 }
 
+// Whether the time of a login is up before it ends.
+fn is_let_go<R: Wait + Clock + RandomSource + AllocGlobal>(
+    rt: &R,
+    runtime: &mut LocalRuntime,
+    stream: DuplexStream,
+) -> Result<bool, Fail> {
+    let logging_in = begun(rt.alloc(), stream)?;
+    let limit = Duration::from_millis(20);
+    let timed = runtime.handle().time().timeout(rt, limit, logging_in)?;
+    Ok(runtime.block_on(rt, timed)?.is_err())
+}
+
+fn is_left<R: Net + Wait + Clock + RandomSource + AllocGlobal>(
+    rt: &R,
+    stream: DuplexStream,
+) -> Result<bool, Fail> {
+    let mut runtime = LocalRuntime::new(rt)?;
+    is_let_go(rt, &mut runtime, stream)
+}
+
 // A server that says nothing: the login is let go when its time is up.
 #[test]
 fn a_silent_server_is_left(rt: HostRuntime) -> Result<(), Fail> {
-    let mut runtime = LocalRuntime::new(&rt)?;
     let (near, far) = duplex(rt.alloc(), 64)?;
-    let config = Config::parse(rt.alloc(), "user=bob")?;
-    let Ok(logging_in) = log_in(rt.alloc(), near, config, &[0; 18], 1000) else {
-        assert!(rt; false);
-        return Ok(());
-    };
-    let limit = Duration::from_millis(20);
-    let timed = runtime.handle().time().timeout(&rt, limit, logging_in)?;
-    let ended = runtime.block_on(&rt, timed)?;
-    assert!(rt; ended.is_err());
+    let is_left = is_left(&rt, near);
     drop(far);
+    assert!(rt; is_left?);
     Ok(())
 }
 
-// What a server reads behind a login, or of one that asks it to cancel.
-fn heard<R: Wait + RandomSource + AllocGlobal>(
+// Whether a server reads these bytes behind a login, or of one that asks it to cancel.
+fn hears<R: Wait + RandomSource + AllocGlobal>(
     rt: &R,
     stream: DuplexStream,
     part: Part,
-    count: usize,
-) -> io::Result<Vec<u8>> {
+    want: &[u8],
+) -> io::Result<bool> {
     let stream = play_one(rt, stream, part)?;
-    let (stream, bytes) = block_on(rt, read_exact(stream, vec![in rt.alloc(); 0; count]?))??;
+    let buf = vec![in rt.alloc(); 0; want.len()]?;
+    let (stream, heard) = block_on(rt, read_exact(stream, buf))??;
     drop(stream);
-    Ok(bytes)
+    Ok(heard.as_slice() == want)
 }
 
 fn closed<R: Wait + RandomSource + AllocGlobal>(
     rt: &R,
     stream: DuplexStream,
 ) -> Result<bool, Fail> {
-    let Some(client) = logged_in(rt, stream)? else {
-        return Ok(false);
-    };
+    let client = logged_in(rt, stream)?;
     let sent = block_on(rt, client.close())?;
     Ok(sent.result.is_ok())
 }
@@ -93,14 +102,13 @@ fn closed<R: Wait + RandomSource + AllocGlobal>(
 fn a_client_says_that_it_ends(rt: HostRuntime) -> Result<(), Fail> {
     let (near, far) = duplex(rt.alloc(), 2)?;
     let rt = &rt;
-    let (heard, closed) = thread::join(
+    let (hears, closed) = thread::join(
         rt,
-        move || heard(rt, far, LOGIN, 5),
+        move || hears(rt, far, LOGIN, b"X\0\0\0\x04"),
         move || closed(rt, near),
     );
     let closed = closed?;
-    assert!(rt; closed);
-    assert_eq!(rt; heard?.as_slice(), b"X\0\0\0\x04".as_slice());
+    assert_eq!(rt; (hears?, closed), (true, true));
     Ok(())
 }
 
@@ -113,20 +121,19 @@ fn canceled<R: Wait + RandomSource + AllocGlobal>(
     Ok(sent.result.is_ok())
 }
 
+// A CancelRequest of process 7 by the key 9.
+const CANCEL: &[u8] = b"\0\0\0\x10\x04\xd2\x16\x2e\0\0\0\x07\0\0\0\x09";
+
 #[test]
 fn a_request_is_canceled(rt: HostRuntime) -> Result<(), Fail> {
     let (near, far) = duplex(rt.alloc(), 16)?;
     let rt = &rt;
-    let (heard, canceled) = thread::join(
+    let (hears, canceled) = thread::join(
         rt,
-        move || heard(rt, far, (0, b""), 16),
+        move || hears(rt, far, (0, b""), CANCEL),
         move || canceled(rt, near),
     );
     let canceled = canceled?;
-    assert!(rt; canceled);
-    assert_eq!(rt;
-        heard?.as_slice(),
-        b"\0\0\0\x10\x04\xd2\x16\x2e\0\0\0\x07\0\0\0\x09".as_slice()
-    );
+    assert_eq!(rt; (hears?, canceled), (true, true));
     Ok(())
 }

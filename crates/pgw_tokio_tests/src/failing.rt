@@ -1,12 +1,12 @@
 //! Streams whose calls fail.
 ghost use Rattle.std.specs.Prelude.{⊤};
 
+use crate::clients::begun;
 use crate::servers::LOGIN;
 use futures::executor::block_on;
 use futures::task::{Context, Poll};
 use pgw_backend::client_error::PgWireClientError;
-use pgw_config::config::Config;
-use pgw_tokio::{Answered, AsyncClient, log_in};
+use pgw_tokio::{Answered, AsyncClient, NotLoggedIn};
 use pgw_types::text::Text;
 use std::alloc::AllocGlobal;
 use std::io;
@@ -86,25 +86,47 @@ fn error_word(error: &PgWireClientError) -> &'static str {
 // How far it came, the error, and the stream's own.
 type Outcome = (&'static str, &'static str, &'static str);
 
+fn outcome_of(answered: &Answered<Failing>) -> Outcome {
+    let error = match &answered.answer {
+        Ok(_) => "answered",
+        Err(error) => error_word(error),
+    };
+    let how = if answered.client.is_usable() {
+        "usable"
+    } else {
+        "unusable"
+    };
+    (how, error, fault_word(answered.client.fault()))
+}
+
+fn refusal_of(refused: &NotLoggedIn<Failing>) -> Outcome {
+    (
+        "refused",
+        error_word(&refused.error),
+        fault_word(refused.fault.as_ref()),
+    )
+}
+
 // Asks one query.
 fn asked<R: Wait + RandomSource + AllocGlobal>(
     rt: &R,
     client: AsyncClient<Failing>,
 ) -> Result<(AsyncClient<Failing>, Outcome), Fail> {
     let query = Text::from_str(rt.alloc(), "SELECT 1")?;
-    let Answered { client, answer } = block_on(rt, client.simple_query(query))?;
-    let error = match &answer {
-        Ok(_) => "answered",
-        Err(error) => error_word(error),
-    };
-    drop(answer);
-    let how = if client.is_usable() {
-        "usable"
-    } else {
-        "unusable"
-    };
-    let outcome = (how, error, fault_word(client.fault()));
+    let answered = block_on(rt, client.simple_query(query))?;
+    let outcome = outcome_of(&answered);
+    let Answered { client, .. } = answered;
     Ok((client, outcome))
+}
+
+fn asked_twice<R: Wait + RandomSource + AllocGlobal>(
+    rt: &R,
+    client: AsyncClient<Failing>,
+) -> Result<(Outcome, Outcome), Fail> {
+    let (client, first) = asked(rt, client)?;
+    let (client, second) = asked(rt, client)?;
+    drop(client);
+    Ok((first, second))
 }
 
 // What comes of a login, and of two queries behind it.
@@ -112,24 +134,10 @@ fn outcomes_of<R: Wait + RandomSource + AllocGlobal>(
     rt: &R,
     stream: Failing,
 ) -> Result<(Outcome, Outcome), Fail> {
-    const NONE: Outcome = ("", "", "");
-    let config = Config::parse(rt.alloc(), "user=bob")?;
-    let Ok(logging_in) = log_in(rt.alloc(), stream, config, &[0; 18], 1000) else {
-        return Ok((NONE, NONE));
-    };
+    let logging_in = begun(rt.alloc(), stream)?;
     match block_on(rt, logging_in)? {
-        Ok(client) => {
-            let (client, first) = asked(rt, client)?;
-            let (client, second) = asked(rt, client)?;
-            drop(client);
-            Ok((first, second))
-        }
-        Err(refused) => {
-            let error = error_word(&refused.error);
-            let outcome = ("refused", error, fault_word(refused.fault.as_ref()));
-            drop(refused);
-            Ok((outcome, NONE))
-        }
+        Ok(client) => asked_twice(rt, client),
+        Err(refused) => Ok((refusal_of(&refused), ("", "", ""))),
     }
 }
 
@@ -167,7 +175,7 @@ fn a_failing_stream_is_told_by_its_own_error(rt: HostRuntime) -> Result<(), Fail
             good_writes: *good_writes,
         };
         let outcomes = outcomes_of(&rt, stream)?;
-        assert_eq!(rt; outcomes, (*first, *second), "{good_reads} {good_writes}");
+        assert_eq!(rt; outcomes, (*first, *second));
     }
     Ok(())
 }
