@@ -7,6 +7,7 @@ use pgw_config::config::Config;
 use pgw_session::types::{Answer, Request, Response};
 use pgw_types::text::Text;
 use std::alloc::Global;
+use std::process::Abort;
 use std::test::Fail;
 
 // AuthenticationOk, ReadyForQuery.
@@ -65,14 +66,22 @@ fn rows_of(responses: &[Response]) -> &'static str {
     }
 }
 
-/// What an answer is.
-pub fn told(answer: &Option<Answer>) -> &'static str {
+fn told(answer: &Option<Answer>) -> &'static str {
     match answer {
         Some(Answer::Responses(responses)) => rows_of(responses.as_slice()),
         Some(Answer::Remote(_)) => "an error",
         Some(_) => "another answer",
         None => "no answer",
     }
+}
+
+/// Takes the answer of the segment that has closed, and tells what it is.
+pub fn taken(client: &mut PushClient) -> &'static str {
+    if !client.is_idle() {
+        return "not idle";
+    }
+    let answer = client.take_answer();
+    told(&answer)
 }
 
 /// Asks a query, gives what the server answers, and tells what the answer is.
@@ -90,13 +99,10 @@ pub fn asked(
         return Ok("not idle");
     }
     client.ask(simple(alloc, query)?, out)?;
-    if !given(client, bytes, size, out)? || !client.is_idle() {
+    if !given(client, bytes, size, out)? {
         return Ok("not whole");
     }
-    let answer = client.take_answer();
-    let told = told(&answer);
-    drop(answer);
-    Ok(told)
+    Ok(taken(client))
 }
 
 fn asked_three(
@@ -114,25 +120,27 @@ fn asked_three(
     Ok((first, second, third))
 }
 
-fn three(alloc: Global, size: usize) -> Result<(Three, Vec<u8>), Fail>
+fn three(alloc: Global, size: usize, out: &mut BytesMut) -> Result<Three, Fail>
     requires { 0 < size }
 {
-    let mut out = BytesMut::new(alloc);
-    let mut client = log_in(alloc, 1000, &mut out)?;
-    let answers = asked_three(alloc, &mut client, size, &mut out);
-    drop(client);
-    let sent = out.as_slice().to_vec(alloc);
-    drop(out);
-    Ok((answers?, sent?))
+    let mut client = log_in(alloc, 1000, out)?;
+    asked_three(alloc, &mut client, size, out)
+}
+
+fn check<R: Abort>(rt: &R, size: usize, answers: Three, sent: &[u8]) {
+    assert_eq!(rt;
+        (size, answers),
+        (size, ("one row", "an error", "a command"))
+    );
+    assert_eq!(rt; (size, sent), (size, SENT));
 }
 
 #[test]
 fn each_request_has_its_own_answer(rt: HostRuntime) -> Result<(), Fail> {
     for size in [1, 3, 8, 200] {
-        let (answers, sent) = three(rt.alloc(), size)?;
-        assert_eq!(rt; answers, ("one row", "an error", "a command"), "{size}");
-        assert_eq!(rt; sent.as_slice(), SENT, "{size}");
-        drop(sent);
+        let mut out = BytesMut::new(rt.alloc());
+        let answers = three(rt.alloc(), size, &mut out)?;
+        check(&rt, size, answers, out.as_slice());
     }
     Ok(())
 }

@@ -49,7 +49,6 @@ enum Kind {
 type Told = (&'static str, usize);
 
 // What is asked, what the server says of it, all that is put out, and what the answer is.
-#[derive(Clone, Copy)]
 struct Case {
     kind: Kind,
     said: &'static [&'static [u8]],
@@ -181,50 +180,46 @@ fn told(client: &mut PushClient) -> Told {
         return ("not idle", 0);
     }
     let answer = client.take_answer();
-    let told = match &answer {
+    match &answer {
         Some(answer) => answer_name(answer),
         None => ("no answer", 0),
-    };
-    drop(answer);
-    told
+    }
 }
 
 // Asks a request of this kind behind a login, and gives what the server says, a message a piece.
 fn asked(
     alloc: Global,
     client: &mut PushClient,
-    case: Case,
+    case: &Case,
     out: &mut BytesMut,
 ) -> Result<Told, Fail> {
     given(client, LOGIN, 100, out)?;
     out.clear();
-    let request = request_of(alloc, case.kind)?;
     if !client.is_idle() {
-        drop(request);
         return Ok(("not logged in", 0));
     }
-    client.ask(request, out)?;
+    client.ask(request_of(alloc, case.kind)?, out)?;
     for piece in case.said {
         given(client, piece, 100, out)?;
     }
     Ok(told(client))
 }
 
-fn check<R: Abort>(rt: &R, alloc: Global, case: Case) -> Result<(), Fail> {
-    let mut out = BytesMut::new(alloc);
-    let mut client = log_in(alloc, 1000, &mut out)?;
-    let told = asked(alloc, &mut client, case, &mut out);
-    drop(client);
-    assert_eq!(rt; told?, case.told);
-    assert_eq!(rt; out.as_slice(), case.sent);
-    drop(out);
-    Ok(())
+fn answered(alloc: Global, case: &Case, out: &mut BytesMut) -> Result<Told, Fail> {
+    let mut client = log_in(alloc, 1000, out)?;
+    asked(alloc, &mut client, case, out)
+}
+
+fn check<R: Abort>(rt: &R, case: &Case, told: Told, sent: &[u8]) {
+    assert_eq!(rt; (told, sent), (case.told, case.sent));
 }
 
 #[test]
 fn each_kind_of_request_is_answered(rt: HostRuntime) -> Result<(), Fail> {
     for case in CASES {
-        check(&rt, rt.alloc(), *case)?;
+        let mut out = BytesMut::new(rt.alloc());
+        let told = answered(rt.alloc(), case, &mut out)?;
+        check(&rt, case, told, out.as_slice());
     }
     Ok(())
 }

@@ -1,8 +1,8 @@
 //! What is refused, what stays after it, and what comes too early or too late.
 
-use crate::asking::{LOGIN, ROW, Three, asked, given, log_in, simple, told};
+use crate::asking::{LOGIN, ROW, Three, asked, given, log_in, simple, taken};
 use bytes::BytesMut;
-use pgw_backend::client_error::PgWireClientError;
+use pgw_backend::client_error::{PgWireClientError, PgWireClientResult};
 use pgw_client_push::PushClient;
 use std::alloc::Global;
 use std::test::Fail;
@@ -17,6 +17,14 @@ fn name_of(error: &PgWireClientError) -> &'static str {
     }
 }
 
+// What came of a call, which is named so where it went well.
+fn came_name<T>(came: &PgWireClientResult<T>, fine: &'static str) -> &'static str {
+    match came {
+        Ok(_) => fine,
+        Err(error) => name_of(error),
+    }
+}
+
 // What a query is answered at once.
 fn ask_alone(
     alloc: Global,
@@ -27,14 +35,8 @@ fn ask_alone(
     if !client.is_idle() {
         return Ok("not idle");
     }
-    match client.ask(simple(alloc, query)?, out) {
-        Ok(_) => Ok("asked"),
-        Err(error) => {
-            let name = name_of(&error);
-            drop(error);
-            Ok(name)
-        }
-    }
+    let came = client.ask(simple(alloc, query)?, out);
+    Ok(came_name(&came, "asked"))
 }
 
 // A query with a byte 0 has no spelling; the next one is asked and answered.
@@ -63,20 +65,18 @@ fn a_refused_request_changes_nothing(rt: HostRuntime) -> Result<(), Fail> {
     Ok(())
 }
 
-// What comes behind the end of a segment belongs to the next request: here all of its answer.
-fn early(alloc: Global, client: &mut PushClient, out: &mut BytesMut) -> Result<&'static str, Fail> {
+fn login_and_row(alloc: Global) -> Result<Vec<u8>, Fail> {
     let mut bytes = LOGIN.to_vec(alloc)?;
     bytes.extend_from_slice(ROW)?;
+    Ok(bytes)
+}
+
+// What comes behind the end of a segment belongs to the next request: here all of its answer.
+fn early(alloc: Global, client: &mut PushClient, out: &mut BytesMut) -> Result<&'static str, Fail> {
+    let bytes = login_and_row(alloc)?;
     given(client, bytes.as_slice(), 200, out)?;
-    drop(bytes);
     ask_alone(alloc, client, "SELECT 1", out)?;
-    if !client.is_idle() {
-        return Ok("not idle");
-    }
-    let answer = client.take_answer();
-    let told = told(&answer);
-    drop(answer);
-    Ok(told)
+    Ok(taken(client))
 }
 
 #[test]
@@ -95,12 +95,7 @@ fn bytes_behind_a_segment_are_kept(rt: HostRuntime) -> Result<(), Fail> {
 fn twice(alloc: Global, client: &mut PushClient, out: &mut BytesMut) -> Result<Three, Fail> {
     given(client, LOGIN, 100, out)?;
     let first = asked(alloc, client, "SELECT 1", ROW, 100, out)?;
-    if !client.is_idle() {
-        return Ok((first, "not idle", ""));
-    }
-    let again = client.take_answer();
-    let second = told(&again);
-    drop(again);
+    let second = taken(client);
     Ok((first, second, ask_alone(alloc, client, "SELECT 1", out)?))
 }
 
@@ -117,54 +112,40 @@ fn an_answer_is_handed_out_once(rt: HostRuntime) -> Result<(), Fail> {
 }
 
 // The end of the bytes, and what a client with this limit answers to all of them.
-fn end_behind(
-    client: &mut PushClient,
-    bytes: &[u8],
-    out: &mut BytesMut,
-) -> Result<&'static str, Fail> {
+fn end_behind(client: &mut PushClient, bytes: &[u8], out: &mut BytesMut) -> &'static str {
     if !client.is_open() || client.room() < bytes.len() as u64 {
-        return Ok("closed");
+        return "closed";
     }
-    match client.take(bytes, out) {
-        Ok(_) if client.is_open() => {
-            let error = client.at_end();
-            let name = name_of(&error);
-            drop(error);
-            Ok(name)
-        }
-        Ok(_) => Ok("idle"),
-        Err(error) => {
-            let name = name_of(&error);
-            drop(error);
-            Ok(name)
-        }
+    let taken = came_name(&client.take(bytes, out), "idle");
+    if client.is_open() {
+        name_of(&client.at_end())
+    } else {
+        taken
     }
 }
 
 fn end_of(alloc: Global, limit: u64, bytes: &[u8]) -> Result<&'static str, Fail> {
     let mut out = BytesMut::new(alloc);
     let mut client = log_in(alloc, limit, &mut out)?;
-    let end = end_behind(&mut client, bytes, &mut out);
-    drop(client);
-    drop(out);
-    end
+    Ok(end_behind(&mut client, bytes, &mut out))
 }
+
+const ENDS: &[(u64, &[u8], &str)] = &[
+    (100, b"R\0\0", "UnexpectedEOF"),
+    (15, LOGIN, "idle"),
+    (14, b"R\0\0\0\x08\0\0\0\0Z\0\0\0\x05", "ReadLimit"),
+    (100, b"?\0\0\0\x04", "PgWireError"),
+    (
+        100,
+        b"R\0\0\0\x08\0\0\0\0D\0\0\0\x06\0\0",
+        "UnexpectedMessage",
+    ),
+];
 
 #[test]
 fn ends_have_their_causes(rt: HostRuntime) -> Result<(), Fail> {
-    let cases: [(u64, &[u8], &str); 5] = [
-        (100, b"R\0\0", "UnexpectedEOF"),
-        (15, LOGIN, "idle"),
-        (14, b"R\0\0\0\x08\0\0\0\0Z\0\0\0\x05", "ReadLimit"),
-        (100, b"?\0\0\0\x04", "PgWireError"),
-        (
-            100,
-            b"R\0\0\0\x08\0\0\0\0D\0\0\0\x06\0\0",
-            "UnexpectedMessage",
-        ),
-    ];
-    for (limit, bytes, name) in &cases {
-        assert_eq!(rt; end_of(rt.alloc(), *limit, bytes)?, *name, "{limit}");
+    for (limit, bytes, name) in ENDS {
+        assert_eq!(rt; end_of(rt.alloc(), *limit, bytes)?, *name);
     }
     Ok(())
 }
