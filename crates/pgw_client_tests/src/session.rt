@@ -30,8 +30,8 @@ pub fn session(
     run_session(alloc, link, config, requests, &[0; 18], limit)
 }
 
-// How an answer is called, and how many rows or parameters it has.
-type Mark = (&'static str, usize);
+/// How an answer is called, and how many rows or parameters it has.
+pub type Mark = (&'static str, usize);
 
 fn answered(answer: &Answer) -> Mark {
     match answer {
@@ -47,25 +47,25 @@ fn answered(answer: &Answer) -> Mark {
     }
 }
 
-fn marks_of(alloc: Global, answers: &[Answer]) -> Result<Vec<Mark>, OutOfMemory> {
-    let mut marks = Vec::new(alloc);
-    for answer in answers {
-        marks.push(answered(answer))?;
+/// Compares answers with what they are to be called and to have.
+pub fn check_answers<R: Abort>(rt: &R, answers: &[Answer], marks: &[Mark]) {
+    assert_eq!(rt; answers.len(), marks.len());
+    for (answer, mark) in answers.iter().zip(marks.iter()) {
+        assert_eq!(rt; answered(answer), *mark);
     }
-    Ok(marks)
 }
 
-// What the requests are answered over the link.
-fn answers_over(
+fn check_answered<R: Abort>(
+    rt: &R,
     alloc: Global,
     link: &mut MemoryLink,
-    config: &Config,
-    requests: &[Request],
-) -> Result<Vec<Mark>, Fail> {
+    (config, requests): (&Config, &[Request]),
+    answers: &[Mark],
+) -> Result<(), Fail> {
     let report = session(alloc, link, config, requests, 10_000)?;
-    let marks = marks_of(alloc, report.answers.as_slice());
+    check_answers(rt, report.answers.as_slice(), answers);
     drop(report);
-    Ok(marks?)
+    Ok(())
 }
 
 // Compares a session over the link with what is to be written and answered.
@@ -73,13 +73,12 @@ fn compare<R: Abort>(
     rt: &R,
     alloc: Global,
     link: &mut MemoryLink,
-    (config, requests): (&Config, &[Request]),
+    asked: (&Config, &[Request]),
     written: &[u8],
     answers: &[Mark],
 ) -> Result<(), Fail> {
-    let marks = answers_over(alloc, link, config, requests)?;
+    check_answered(rt, alloc, link, asked, answers)?;
     assert_eq!(rt; link.written(), written);
-    assert_eq!(rt; marks.as_slice(), answers);
     Ok(())
 }
 
@@ -151,14 +150,6 @@ fn of_texts(alloc: Global, number: usize) -> Result<Request, OutOfMemory> {
     }
 }
 
-fn all_of_texts(alloc: Global) -> Result<Vec<Request>, OutOfMemory> {
-    let mut requests = Vec::new(alloc);
-    for number in 0..5 {
-        requests.push(of_texts(alloc, number)?)?;
-    }
-    Ok(requests)
-}
-
 const ANSWERED: &[u8] =
     b"R\0\0\0\x08\0\0\0\0Z\0\0\0\x05I1\0\0\0\x04t\0\0\0\x0a\0\x01\0\0\0\x17n\0\0\0\x04Z\0\0\0\x05I2\0\0\0\x04C\0\0\0\x0dSELECT 0\0Z\0\0\0\x05I1\0\0\0\x042\0\0\0\x04C\0\0\0\x0dSELECT 0\0Z\0\0\0\x05II\0\0\0\x04Z\0\0\0\x05I";
 
@@ -177,7 +168,7 @@ const MARKS_OF_TEXTS: &[Mark] = &[
 #[test]
 fn requests_of_texts(rt: HostRuntime) -> Result<(), Fail> {
     let alloc = rt.alloc();
-    let requests = all_of_texts(alloc)?;
+    let requests = requests(alloc, 0, 5)?;
     let checked = check(
         &rt,
         alloc,
@@ -194,14 +185,17 @@ fn requests_of_texts(rt: HostRuntime) -> Result<(), Fail> {
 const ASKED: &[u8] =
     b"\0\0\0\x12\0\x03\0\0user\0bob\0\0p\0\0\0\x39SCRAM-SHA-256\0\0\0\0\x23n,,n=bob,r=AAAAAAAAAAAAAAAAAAAAAAAA";
 
-// A server's nonce so long that the answer to it is larger than its message may be.
-fn long_nonce(alloc: Global) -> Result<Vec<u8>, OutOfMemory> {
-    let mut server = Vec::from_slice(alloc, b"R\0\0\0\x17\0\0\0\x0aSCRAM-SHA-256\0\0")?;
-    server.extend_from_slice(b"R\0\0\x27\x29\0\0\0\x0br=AAAAAAAAAAAAAAAAAAAAAAAA")?;
-    server.extend_from_slice(&[b'x'; 9980])?;
-    server.extend_from_slice(b",s=YmFy,i=1")?;
-    Ok(server)
+// These bytes with so many letters between them.
+fn filled(alloc: Global, head: &[u8], count: usize, tail: &[u8]) -> Result<Vec<u8>, OutOfMemory> {
+    let mut bytes = Vec::from_slice(alloc, head)?;
+    bytes.resize(head.len().saturating_add(count), b'x')?;
+    bytes.extend_from_slice(tail)?;
+    Ok(bytes)
 }
+
+// A server's nonce, to be filled, so long that the answer to it is larger than its message may be.
+const NONCE: &[u8] =
+    b"R\0\0\0\x17\0\0\0\x0aSCRAM-SHA-256\0\0R\0\0\x27\x29\0\0\0\x0br=AAAAAAAAAAAAAAAAAAAAAAAA";
 
 // Whether a session over the link is refused for its large answer.
 fn is_too_large(alloc: Global, link: &mut MemoryLink, config: &Config) -> bool {
@@ -226,7 +220,7 @@ fn check_large<R: Abort>(rt: &R, alloc: Global, link: &mut MemoryLink) -> Result
 // Nothing of the answer is written.
 #[test]
 fn an_answer_too_large(rt: HostRuntime) -> Result<(), Fail> {
-    let server = long_nonce(rt.alloc())?;
+    let server = filled(rt.alloc(), NONCE, 9980, b",s=YmFy,i=1")?;
     let mut link = link_of(rt.alloc(), server.as_slice(), 500)?;
     let checked = check_large(&rt, rt.alloc(), &mut link);
     drop(link);
@@ -269,24 +263,26 @@ fn query(alloc: Global) -> Result<Request, OutOfMemory> {
     Ok(Request::Query(sql, one_type(alloc)?, one_parameter(alloc)?))
 }
 
-// Each kind of request, with an Execute that is suspended and one that completes.
+// The requests that are made of texts, and then each kind of its parts, with an Execute that is suspended and one that
+// completes.
 fn request_at(alloc: Global, number: usize) -> Result<Request, OutOfMemory> {
     match number {
-        0 => prepare(alloc),
-        1 => bind(alloc),
-        2 => Ok(Request::Execute(named(alloc, "p")?, 1)),
-        3 => Ok(Request::Execute(named(alloc, "p")?, 0)),
-        4 => Ok(Request::Describe(Target::Statement(named(alloc, "s")?))),
-        5 => Ok(Request::Describe(portal(alloc)?)),
-        6 => Ok(Request::Close(portal(alloc)?)),
-        7 => query(alloc),
+        0..5 => of_texts(alloc, number),
+        5 => prepare(alloc),
+        6 => bind(alloc),
+        7 => Ok(Request::Execute(named(alloc, "p")?, 1)),
+        8 => Ok(Request::Execute(named(alloc, "p")?, 0)),
+        9 => Ok(Request::Describe(Target::Statement(named(alloc, "s")?))),
+        10 => Ok(Request::Describe(portal(alloc)?)),
+        11 => Ok(Request::Close(portal(alloc)?)),
+        12 => query(alloc),
         _ => Ok(Request::Simple(Text::from_str(alloc, "SELECT 1")?)),
     }
 }
 
-fn requests(alloc: Global) -> Result<Vec<Request>, OutOfMemory> {
+fn requests(alloc: Global, first: usize, end: usize) -> Result<Vec<Request>, OutOfMemory> {
     let mut requests = Vec::new(alloc);
-    for number in 0..9 {
+    for number in first..end {
         requests.push(request_at(alloc, number)?)?;
     }
     Ok(requests)
@@ -329,7 +325,7 @@ const MARKS: &[Mark] = &[
 #[test]
 fn requests_are_answered(rt: HostRuntime) -> Result<(), Fail> {
     let alloc = rt.alloc();
-    let requests = requests(alloc)?;
+    let requests = requests(alloc, 5, 14)?;
     let checked = check(&rt, alloc, ("user=bob", SERVER), &requests, SENT, MARKS);
     drop(requests);
     checked
@@ -345,87 +341,76 @@ fn rows_of(report: &SessionReport) -> Option<&DataRows> {
     None
 }
 
-// How long each row is, and its last byte.
-fn sizes_of(
-    alloc: Global,
-    report: &SessionReport,
-) -> Result<Vec<(usize, Option<u8>)>, OutOfMemory> {
-    let mut sizes = Vec::new(alloc);
-    if let Some(rows) = rows_of(report) {
-        for row in rows.iter() {
-            sizes.push((row.payload.len(), row.payload.last().copied()))?;
-        }
+const SIZES: &[(usize, Option<u8>)] = &[(5, Some(b'1')), (40_004, Some(b'x')), (5, Some(b'2'))];
+
+// Compares how long each row is, and its last byte.
+fn check_rows<R: Abort>(rt: &R, rows: &DataRows) {
+    assert_eq!(rt; rows.len(), SIZES.len());
+    for (row, size) in rows.iter().zip(SIZES.iter()) {
+        assert_eq!(rt; (row.payload.len(), row.payload.last().copied()), *size);
     }
-    Ok(sizes)
 }
 
-// The sizes of the rows of one simple query over the link.
-fn sizes_by(
+fn check_report<R: Abort>(rt: &R, report: &SessionReport) -> Result<(), Fail> {
+    check_rows(rt, rows_of(report).ok_or("no rows")?);
+    Ok(())
+}
+
+fn check_rows_by<R: Abort>(
+    rt: &R,
     alloc: Global,
     link: &mut MemoryLink,
     config: &Config,
     requests: &[Request],
-) -> Result<Vec<(usize, Option<u8>)>, Fail> {
+) -> Result<(), Fail> {
     let report = session(alloc, link, config, requests, 100_000)?;
-    let sizes = sizes_of(alloc, &report);
+    let checked = check_report(rt, &report);
     drop(report);
-    Ok(sizes?)
+    checked
 }
 
-fn sizes_asked(
+fn check_rows_asked<R: Abort>(
+    rt: &R,
     alloc: Global,
     link: &mut MemoryLink,
     config: &Config,
-) -> Result<Vec<(usize, Option<u8>)>, Fail> {
+) -> Result<(), Fail> {
     let requests = [Request::simple(alloc, "SELECT a")?];
-    let sizes = sizes_by(alloc, link, config, &requests);
+    let checked = check_rows_by(rt, alloc, link, config, &requests);
     drop(requests);
-    sizes
+    checked
 }
 
-fn sizes_over(alloc: Global, link: &mut MemoryLink) -> Result<Vec<(usize, Option<u8>)>, Fail> {
+fn check_rows_over<R: Abort>(rt: &R, alloc: Global, link: &mut MemoryLink) -> Result<(), Fail> {
     let config = Config::parse(alloc, "user=bob")?;
-    let sizes = sizes_asked(alloc, link, &config);
+    let checked = check_rows_asked(rt, alloc, link, &config);
     drop(config);
-    sizes
+    checked
 }
 
-// The sizes of the rows, where the link moves so many bytes at a time.
-fn sizes_in_pieces(
-    alloc: Global,
-    server: &[u8],
-    cut: usize,
-) -> Result<Vec<(usize, Option<u8>)>, Fail>
+// Compares the rows, where the link moves so many bytes at a time.
+fn check_pieces<R: Abort>(rt: &R, alloc: Global, server: &[u8], cut: usize) -> Result<(), Fail>
     requires { 0 < cut }
 {
     let mut link = link_of(alloc, server, cut)?;
-    let sizes = sizes_over(alloc, &mut link);
+    let checked = check_rows_over(rt, alloc, &mut link);
     drop(link);
-    sizes
+    checked
 }
 
-// A row of 40,000 bytes between two of one.
-fn large_rows(alloc: Global) -> Result<Vec<u8>, OutOfMemory> {
-    let mut server = Vec::from_slice(
-        alloc,
-        b"R\0\0\0\x08\0\0\0\0Z\0\0\0\x05I\
+// A row of 40,000 bytes, to be filled, between two of one.
+const LARGE_ROW: &[u8] = b"R\0\0\0\x08\0\0\0\0Z\0\0\0\x05I\
 T\0\0\0\x1a\0\x01a\0\0\0\0\0\0\0\0\0\0\x17\0\x04\xff\xff\xff\xff\0\0D\0\0\0\x0b\0\x01\0\0\0\x011\
-D\0\0\x9c\x4a\0\x01\0\0\x9c\x40",
-    )?;
-    server.extend_from_slice(vec![in alloc; b'x'; 40_000]?.as_slice())?;
-    server.extend_from_slice(b"D\0\0\0\x0b\0\x01\0\0\0\x012C\0\0\0\x0dSELECT 3\0Z\0\0\0\x05I")?;
-    Ok(server)
-}
+D\0\0\x9c\x4a\0\x01\0\0\x9c\x40";
 
-const SIZES: &[(usize, Option<u8>)] = &[(5, Some(b'1')), (40_004, Some(b'x')), (5, Some(b'2'))];
+const BEHIND_IT: &[u8] = b"D\0\0\0\x0b\0\x01\0\0\0\x012C\0\0\0\x0dSELECT 3\0Z\0\0\0\x05I";
 
 // It comes in pieces and whole.
 #[test]
 fn a_large_row_comes_in_pieces(rt: HostRuntime) -> Result<(), Fail> {
-    let server = large_rows(rt.alloc())?;
+    let server = filled(rt.alloc(), LARGE_ROW, 40_000, BEHIND_IT)?;
     for cut in [999, 8192, 65536] {
-        let sizes = sizes_in_pieces(rt.alloc(), server.as_slice(), cut)?;
-        assert_eq!(rt; sizes.as_slice(), SIZES);
+        check_pieces(&rt, rt.alloc(), server.as_slice(), cut)?;
     }
     Ok(())
 }

@@ -1,9 +1,10 @@
 //! One session over each limit, each early end and each failing call.
 ghost use Rattle.std.specs.Prelude.{◌<◌};
 
+use crate::session::session;
 use pgw_client::{
     Config, Listed, MemoryLink, Octets, OutOfMemory, PgWireClientError, PgWireClientResult,
-    Request, SessionReport, run_session,
+    Request, SessionReport,
 };
 use std::alloc::Global;
 use std::process::Abort;
@@ -70,7 +71,7 @@ fn ending_of(
     requests: &[Request],
     limit: u64,
 ) -> &'static str {
-    let answer = run_session(alloc, link, config, requests, &[0; 18], limit);
+    let answer = session(alloc, link, config, requests, limit);
     let ended = ending(&answer);
     drop(answer);
     ended
@@ -101,10 +102,10 @@ fn compare<R: Abort>(
     alloc: Global,
     link: &mut MemoryLink,
     limit: u64,
-    (number, written, ended): (usize, &[u8], &str),
+    want: (usize, &[u8], &str),
 ) -> Result<(), Fail> {
-    assert_eq!(rt; end_over(alloc, link, limit)?, ended, "{number}");
-    assert_eq!(rt; link.written(), written, "{number}");
+    let ended = end_over(alloc, link, limit)?;
+    assert_eq!(rt; (want.0, link.written(), ended), want);
     Ok(())
 }
 
