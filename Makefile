@@ -6,6 +6,7 @@
 # live: the program against a real PostgreSQL, in a scratch cluster (live/run).
 # lib: the C library, its header and its pkg-config file, in build/c; install puts them in place (docs/C.md). check-lib runs
 # it over bytes of servers that are written down (c/canned.c), under valgrind.
+# edits: the must-fail edits that the gate leaves out (make edits CRATE=pgw_query; without CRATE all, which takes hours).
 # plant: wrong bodies that a crate's contracts let through (make plant CRATE=pgw_wire).
 SHELL = /bin/bash
 PROGRAM = crates/hothummei/out/hothummei
@@ -17,7 +18,7 @@ WEB = crates/example_web/out/example_web
 LIBRARY = build/c
 LOG = build.log
 
-.PHONY: try run install test program visit relay client pool web lib check-lib live fmt plant needs-rt
+.PHONY: try run install test program visit relay client pool web lib check-lib live fmt edits plant needs-rt
 
 needs-rt:
 	@command -v rt > /dev/null || { echo "rt is not in the PATH: install the Rattle kit that README.md names, and put its folder bin into the PATH" >&2; exit 1; }
@@ -80,6 +81,9 @@ live: program visit relay client pool web check-lib
 
 fmt:
 	@for crate in crates/*/; do (cd $$crate && rt fmt) || exit 1; done
+
+edits: needs-rt
+	.ci/edits $(CRATE)
 
 plant: needs-rt
 	@test -n "$(CRATE)" || { echo "make plant wants a crate, as make plant CRATE=pgw_wire; crates.txt lists them" >&2; exit 1; }

@@ -1,6 +1,6 @@
 //! The system's clock.
 
-use pgw_client_places::notes::Clock;
+use pgw_prog_commands::notes::Clock;
 use std::time::{Duration, Instant};
 
 /// The time since a moment that the system's clock told; no time where it tells none.

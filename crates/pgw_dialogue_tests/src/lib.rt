@@ -1,4 +1,4 @@
-//! Tests of dialogues.
+//! Tests of dialogues, and of clients whose bytes the caller moves.
 #![tactic(auto)]
 
 #[cfg(test)]
@@ -7,3 +7,5 @@ mod callers;
 mod calls;
 #[cfg(test)]
 mod pieces;
+#[cfg(test)]
+mod push;

@@ -66,7 +66,7 @@ pub trait PasswordMethod {
             ⊎ checks self.now text.now kept.now (login_of login.now) result };
 }
 
-/// That the password is another.
+/// The error of a client whose password is wrong, with the user that it named.
 pub fn wrong_password(alloc: Global, login: &LoginInfo<'_>) -> PgWireError
     ensures { (result ≡ NoMemory) ⊎ (result ≡ wrong_password (login_of login.now)) }
 {

@@ -6,7 +6,7 @@ use Rattle.std.proofs.lemmas.Bool.Decides.{nat_tests}
 use Rattle.std.proofs.lemmas.List.Sums.{AllPass-from_list_all}
 use Rattle.std.proofs.lemmas.Str.{IsUtf8-from_ascii}
 use Rattle.std.proofs.lemmas.Str.Ascii.{IsAscii-from_all}
-use Rattle.pgw_login_oauth.specs.Token.{is_token_byte}
+use Rattle.pgw_login_sasl.specs.Token.{is_token_byte}
 
 token_byte_is_ascii : (b : ℕ) → is_token_byte b ≡ true → b < 128
 token_byte_is_ascii b h = grind (arith, nat_tests)

@@ -6,3 +6,5 @@ pub mod Stored
 pub mod ErrorText
 pub mod Oauth
 pub mod Sasl
+pub mod Data
+pub mod Token

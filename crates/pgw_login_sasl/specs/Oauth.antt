@@ -5,8 +5,8 @@ use Rattle.pgw_types.specs.declared.error.PgWireError.TheVariants.{InvalidOauthM
 use Rattle.pgw_types.specs.declared.error.OauthFault.{OauthFault}
 use Rattle.pgw_types.specs.declared.error.OauthFault.TheVariants.{NotOneByte}
 use Rattle.pgw_types.specs.declared.error.OauthRefusal.TheVariants as refusal
-use Rattle.pgw_login_oauth.specs.Data.{auth_in}
-use Rattle.pgw_login_oauth.specs.Token.{token_in}
+use Rattle.pgw_login_sasl.specs.Data.{auth_in}
+use Rattle.pgw_login_sasl.specs.Token.{token_in}
 use Rattle.std.specs.Str.{bytes_eq}
 use Rattle.pgw_wire.specs.Reading.{lossy}
 use Rattle.pgw_startup.specs.Password.{as_initial_response, as_response}

@@ -2,19 +2,19 @@
 ghost use Rattle.std.specs.Prelude.{◌≡◌, ◌⊎◌, true, false, Ok, Err, IfOk, IfErr};
 ghost use Rattle.std.specs.List.{list_all};
 ghost use Rattle.std.specs.Option.{option_copied};
-ghost use Rattle.pgw_login_oauth.specs.Token.{is_token_byte};
+ghost use Rattle.pgw_login_sasl.specs.Token.{is_token_byte};
 ghost use Rattle.pgw_types.specs.declared.error.PgWireError.TheVariants.{OutOfMemory as NoMemory};
 ghost use Rattle.pgw_login.specs.Logins.{login_of};
 ghost use Rattle.pgw_startup.specs.Password.{as_response};
 ghost use Rattle.pgw_login_sasl.specs.ErrorText.{IsErrorText};
 ghost use Rattle.pgw_login_sasl.specs.Oauth.{token_of, Judged, data_of, ByToken, ByData, oauth_end, OauthReplies};
 
+use crate::data::auth_in;
 use crate::error_text::error_text;
+use crate::token::token_in;
 use crate::validator::OauthValidator;
 use pgw_login::source::LoginInfo;
 use pgw_login::state::SASLState;
-use pgw_login_oauth::data::auth_in;
-use pgw_login_oauth::token::token_in;
 use pgw_startup::authentication::Authentication;
 use pgw_startup::password::PasswordMessageFamily;
 use pgw_types::error::{OauthFault, OauthRefusal, PgWireError, PgWireResult};

@@ -1,5 +1,5 @@
-//! Tests of a server's side of a login, message by message, that need its public calls alone: of each handler, and of logins by
-//! SASL.
+//! Tests of a server's side of a login, message by message, that need its public calls alone: of each handler, of logins by
+//! SASL, and of the core that holds them.
 #![tactic(auto)]
 
 #[cfg(test)]
@@ -14,6 +14,8 @@ mod methods;
 mod registered;
 #[cfg(test)]
 mod sasl;
+#[cfg(test)]
+mod server;
 #[cfg(test)]
 mod server_handlers;
 #[cfg(test)]

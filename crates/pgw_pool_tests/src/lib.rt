@@ -1,4 +1,4 @@
-//! Tests of a pool.
+//! Tests of a pool, and of one that threads share.
 #![tactic(auto)]
 
 #[cfg(test)]
@@ -13,3 +13,5 @@ mod renewing;
 mod retiring;
 #[cfg(test)]
 mod servers;
+#[cfg(test)]
+mod shared;

@@ -28,7 +28,7 @@ use Rattle.pgw_prog.specs.declared.printed.Printed.{Printed}
 use Rattle.pgw_prog.specs.Held.{Says, exit_status}
 use Rattle.pgw_client.specs.OverLink.{LinkSpan, OverLink}
 use Rattle.pgw_prog.specs.Connected.{input_for, next_offer, DialSpan, DialsAndShuts, NoLinkFor, HoldsDialerSession, IsDialOutcome, LeavesFor, LeavesDialer, PrintsRefusal, PrintsTalk, PrintsAtAddress, PrintsBy, PrintsConnection, CanConnect, PrintsReport}
-use Rattle.pgw_prog_printing.specs.SessionText.{report_lines, error_line, result_text}
+use Rattle.pgw_prog_sessions.specs.SessionText.{report_lines, error_line, result_text}
 use Rattle.pgw_prog.proofs.OverLaws.{foretold_less, from_fresh}
 use Rattle.pgw_prog.proofs.TextLaws.{error_same, not_io, no_report}
 

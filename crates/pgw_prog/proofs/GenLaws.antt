@@ -9,12 +9,12 @@ use Rattle.pgw_backend.specs.declared.client_error.PgWireClientError.TheVariants
 use Rattle.pgw_session.specs.declared.types.SessionReport.{SessionReport}
 use Rattle.pgw_session.specs.Transcript.{Completes, report_of}
 use Rattle.pgw_client.specs.Session.{AnswersReport}
-use Rattle.pgw_prog_generate.specs.declared.summary.GenSummary.{GenSummary}
+use Rattle.pgw_prog_sessions.specs.declared.summary.GenSummary.{GenSummary}
 use Rattle.sha2.specs.Sha256.{sha256}
 use Rattle.pgw_query.specs.declared.data.DataRow.{DataRow}
-use Rattle.pgw_prog_generate.specs.Stream.{IsStream, gen_segments, gen_rows}
-use Rattle.pgw_prog_generate.specs.Summary.{gen_input, payloads, summary_of}
-use Rattle.pgw_prog_generate.proofs.CompletionLaws.{rows_counted, stream_completes, stream_reported}
+use Rattle.pgw_prog_sessions.specs.Stream.{IsStream, gen_segments, gen_rows}
+use Rattle.pgw_prog_sessions.specs.Summary.{gen_input, payloads, summary_of}
+use Rattle.pgw_prog_sessions.proofs.CompletionLaws.{rows_counted, stream_completes, stream_reported}
 use Rattle.pgw_types.specs.declared.memory.OutOfMemory.{OutOfMemory}
 use Rattle.pgw_prog.specs.declared.printed.Printed.{Printed}
 use Rattle.pgw_prog.specs.Held.{Says}

@@ -29,7 +29,7 @@ use Rattle.pgw_session.proofs.Whole.{conversation_completes}
 use Rattle.pgw_prog_script.specs.declared.script.Script.{Script}
 use Rattle.pgw_prog.specs.Held.{MemorySession, PrintsSession, Says, PrintsOutcome, Holds, NamesCall, IsNear, memory_span, exit_status}
 use Rattle.pgw_client.specs.OverLink.{LinkSpan, OverLink}
-use Rattle.pgw_prog_printing.specs.SessionText.{session_text}
+use Rattle.pgw_prog_sessions.specs.SessionText.{session_text}
 use Rattle.pgw_prog.proofs.OverLaws.{from_fresh}
 
 -- which calls failed, of those made by then

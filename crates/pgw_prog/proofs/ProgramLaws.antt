@@ -14,7 +14,7 @@ use Rattle.pgw_types.specs.declared.config_error.ConfigError.{ConfigError}
 use Rattle.pgw_backend.specs.ClientError.{of_config}
 use Rattle.pgw_backend.specs.declared.client_error.PgWireClientError.TheVariants as client
 use Rattle.pgw_config.specs.declared.config.Config.{Config}
-use Rattle.pgw_prog_printing.specs.SessionText.{session_text}
+use Rattle.pgw_prog_sessions.specs.SessionText.{session_text}
 use Rattle.pgw_prog.specs.Held.{PrintsSession, PrintsOutcome, Holds, CanComplete, NamesCall, IsNear, FailsNear, script_input, script_making, completed_text}
 use Rattle.pgw_prog.specs.declared.command.Command.{Command}
 use Rattle.pgw_prog.specs.declared.command.Command.TheVariants as kind

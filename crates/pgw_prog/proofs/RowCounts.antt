@@ -30,7 +30,7 @@ use Rattle.pgw_session.specs.Standings.{first_standing, standing_by}
 use Rattle.pgw_session.specs.Transcript.{Completed, SpellsGot, report_of}
 use Rattle.pgw_session.proofs.Sound.{spelled_front}
 use Rattle.pgw_client.specs.Session.{KeepsPace}
-use Rattle.pgw_prog_generate.specs.Summary.{answer_rows, report_rows, response_rows}
+use Rattle.pgw_prog_sessions.specs.Summary.{answer_rows, report_rows, response_rows}
 
 -- how many messages were got
 abbrev gots : List Event → ℕ

@@ -11,10 +11,10 @@ use Rattle.pgw_backend.specs.ClientError.{of_config}
 use Rattle.pgw_backend.specs.declared.client_error.PgWireClientError.{PgWireClientError}
 use Rattle.pgw_backend.specs.declared.client_error.PgWireClientError.TheVariants as client
 use Rattle.pgw_session.specs.declared.types.SessionReport.{SessionReport}
-use Rattle.pgw_prog_printing.specs.Pieces.{in_hex}
-use Rattle.pgw_prog_printing.specs.ErrorNames.{client_name}
-use Rattle.pgw_prog_printing.specs.SessionText.{sent_line, version_line, report_lines, error_line, session_text}
-use Rattle.pgw_prog_printing.specs.Pieces.{line_end}
+use Rattle.pgw_prog_sessions.specs.Pieces.{in_hex}
+use Rattle.pgw_prog_sessions.specs.ErrorNames.{client_name}
+use Rattle.pgw_prog_sessions.specs.SessionText.{sent_line, version_line, report_lines, error_line, session_text}
+use Rattle.pgw_prog_sessions.specs.Pieces.{line_end}
 
 -- no line ends in it
 abbrev goes_on : ℕ → Bool

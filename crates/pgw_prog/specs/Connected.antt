@@ -23,7 +23,7 @@ use Rattle.pgw_prog.specs.declared.command.Connection.{Connection}
 use Rattle.pgw_prog.specs.declared.printed.Printed.{Printed}
 use Rattle.pgw_prog.specs.Held.{Says, exit_status}
 use Rattle.pgw_client.specs.OverLink.{OverLink}
-use Rattle.pgw_prog_printing.specs.SessionText.{report_lines, error_line, result_text}
+use Rattle.pgw_prog_sessions.specs.SessionText.{report_lines, error_line, result_text}
 
 -- the session that is asked for, with this configuration
 abbrev pub input_for : Connection → List ℕ → Config → Input

@@ -3,8 +3,8 @@ use Rattle.std.specs.Prelude.{◌≡◌, ℕ, List, Result, Ok, Err}
 use Rattle.pgw_backend.specs.declared.client_error.PgWireClientError.{PgWireClientError as ClientError}
 use Rattle.pgw_backend.specs.declared.client_error.PgWireClientError.TheVariants as client
 use Rattle.pgw_session.specs.declared.types.SessionReport.{SessionReport}
-use Rattle.pgw_prog_generate.specs.declared.summary.GenSummary.{GenSummary}
-use Rattle.pgw_prog_generate.specs.Summary.{gen_input, summary_of}
+use Rattle.pgw_prog_sessions.specs.declared.summary.GenSummary.{GenSummary}
+use Rattle.pgw_prog_sessions.specs.Summary.{gen_input, summary_of}
 use Rattle.pgw_client.specs.OverLink.{LinkSpan, OverLink}
 
 -- the answer of a session told shortly: the summary of its report, or its error

@@ -1,12 +1,12 @@
 -- What is printed of a session of any size.
 use Rattle.std.specs.Prelude.{◌≡◌, ◌⊎◌, ℕ, List, ◌++◌, length, codes, decimal}
 use Rattle.sha2.specs.Sha256.{sha256}
-use Rattle.pgw_prog_generate.specs.declared.summary.GenSummary.{GenSummary}
-use Rattle.pgw_prog_generate.specs.Stream.{IsStream, gen_rows}
-use Rattle.pgw_prog_generate.specs.Summary.{payloads}
+use Rattle.pgw_prog_sessions.specs.declared.summary.GenSummary.{GenSummary}
+use Rattle.pgw_prog_sessions.specs.Stream.{IsStream, gen_rows}
+use Rattle.pgw_prog_sessions.specs.Summary.{payloads}
 use Rattle.pgw_prog.specs.declared.printed.Printed.{Printed}
 use Rattle.pgw_prog.specs.Held.{Says}
-use Rattle.pgw_prog_printing.specs.Pieces.{in_hex, line_end}
+use Rattle.pgw_prog_sessions.specs.Pieces.{in_hex, line_end}
 
 -- rows N, bytes N, sha256 HEX
 unfoldable pub summary_text : GenSummary → ℕ → List ℕ

@@ -19,7 +19,7 @@ use Rattle.pgw_session.specs.Transcript.{Completes, report_of}
 use Rattle.pgw_client.specs.OverLink.{LinkSpan, OverLink}
 use Rattle.pgw_prog_script.specs.declared.script.Script.{Script}
 use Rattle.pgw_prog.specs.declared.printed.Printed.{Printed}
-use Rattle.pgw_prog_printing.specs.SessionText.{session_text}
+use Rattle.pgw_prog_sessions.specs.SessionText.{session_text}
 
 -- the session that the script asks for, with this configuration
 abbrev pub script_input : Script → Config → Input

@@ -14,9 +14,9 @@ use Rattle.pgw_login_pair.specs.declared.parties.ServerEnd.TheVariants as server
 use Rattle.pgw_login_pair.specs.Parties.{TwoParty}
 use Rattle.pgw_prog_script.specs.declared.pair_script.PairScript.{PairScript}
 use Rattle.pgw_prog.specs.declared.printed.Printed.{Printed}
-use Rattle.pgw_prog_printing.specs.ErrorNames.{client_name, wire_name}
+use Rattle.pgw_prog_sessions.specs.ErrorNames.{client_name, wire_name}
 use Rattle.pgw_prog.specs.Held.{Says}
-use Rattle.pgw_prog_printing.specs.Pieces.{line_end}
+use Rattle.pgw_prog_sessions.specs.Pieces.{line_end}
 
 -- the login that the script asks for: the server keeps the salted password of the text `stored`
 abbrev pub pair_input : PairScript → PairInput

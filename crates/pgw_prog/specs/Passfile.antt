@@ -6,7 +6,7 @@ use Rattle.pgw_secrets.specs.Lookup.{answers_for, IsFound}
 use Rattle.pgw_prog.specs.declared.printed.Printed.{Printed}
 use Rattle.pgw_prog.specs.declared.passfile.Asked.{Asked}
 use Rattle.pgw_prog.specs.Held.{Says}
-use Rattle.pgw_prog_printing.specs.Pieces.{in_hex, line_end}
+use Rattle.pgw_prog_sessions.specs.Pieces.{in_hex, line_end}
 use Rattle.pgw_prog.specs.Transfer.{SourceSpan, TookWhole, TookTooMany}
 
 -- a password in hex, or none

@@ -4,8 +4,8 @@ use Rattle.pgw_prog_script.specs.declared.pool_script.PoolScript.{PoolScript}
 use Rattle.pgw_prog_pool.specs.declared.run.PoolOutcome.{PoolOutcome}
 use Rattle.pgw_prog_pool.specs.declared.run.PoolOutcome.TheVariants as outcome
 use Rattle.pgw_prog_pool.specs.Outcome.{RunsPool}
-use Rattle.pgw_prog_printing.specs.Pieces.{line_end}
-use Rattle.pgw_prog_printing.specs.SessionText.{error_line}
+use Rattle.pgw_prog_sessions.specs.Pieces.{line_end}
+use Rattle.pgw_prog_sessions.specs.SessionText.{error_line}
 use Rattle.pgw_prog.specs.declared.printed.Printed.{Printed}
 use Rattle.pgw_prog.specs.Held.{Says}
 

@@ -34,8 +34,8 @@ use Rattle.pgw_prog.specs.Passfile.{AnswersPassfile, PrintsFound}
 use Rattle.pgw_prog.specs.Relay.{PrintsRelay, PrintsRelayText}
 use Rattle.pgw_prog.specs.Pool.{PrintsPool, PrintsPoolText}
 use Rattle.pgw_prog.specs.Secret.{SaysSecret, PrintsSecret}
-use Rattle.pgw_prog_printing.specs.Pieces.{line_end}
-use Rattle.pgw_prog_printing.specs.SessionText.{error_line, session_text}
+use Rattle.pgw_prog_sessions.specs.Pieces.{line_end}
+use Rattle.pgw_prog_sessions.specs.SessionText.{error_line, session_text}
 use Rattle.pgw_prog.specs.Transfer.{SourceSpan, SinkSpan, TookWhole, TookFront, TookTooMany}
 
 -- the line with this number is the first outside the grammar

@@ -12,7 +12,7 @@ use Rattle.pgw_proxy.specs.Run.{Span, Relays}
 use Rattle.pgw_prog_script.specs.declared.relay_script.RelayScript.{RelayScript}
 use Rattle.pgw_prog.specs.declared.printed.Printed.{Printed}
 use Rattle.pgw_prog.specs.Held.{InCuts, Says}
-use Rattle.pgw_prog_printing.specs.Pieces.{in_hex, line_end}
+use Rattle.pgw_prog_sessions.specs.Pieces.{in_hex, line_end}
 
 -- a word, and bytes
 abbrev pub bytes_line : List ℕ → List ℕ → List ℕ

@@ -3,7 +3,7 @@ use Rattle.std.specs.Prelude.{◌≡◌, ◌⊎◌, ℕ, List, ◌++◌, take}
 use Rattle.pgw_secrets.specs.Secret.{secret_of, stored_secret_text}
 use Rattle.pgw_prog.specs.declared.printed.Printed.{Printed}
 use Rattle.pgw_prog.specs.Held.{Says}
-use Rattle.pgw_prog_printing.specs.Pieces.{line_end}
+use Rattle.pgw_prog_sessions.specs.Pieces.{line_end}
 
 -- the first 16 of the bytes that were drawn are the salt
 abbrev pub secret_line : List ℕ → ℕ → List ℕ → List ℕ

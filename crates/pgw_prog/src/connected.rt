@@ -4,7 +4,7 @@ ghost use Rattle.pgw_backend.specs.declared.client_error.PgWireClientError.TheVa
 ghost use Rattle.pgw_prog.specs.declared.command.Command.TheVariants as kind;
 ghost use Rattle.pgw_prog.specs.Connected.{input_for, dial_span, PrintsConnection, LeavesDialer, LeavesFor, PrintsAtAddress, IsDialOutcome};
 ghost use Rattle.pgw_prog.specs.Held.{Says, exit_status as status_for};
-ghost use Rattle.pgw_prog_printing.specs.SessionText.{error_line, result_text};
+ghost use Rattle.pgw_prog_sessions.specs.SessionText.{error_line, result_text};
 ghost use Rattle.pgw_config.specs.Address.{address_of};
 
 use crate::command::Connection;
@@ -15,7 +15,7 @@ use pgw_backend::client_error::{PgWireClientError, PgWireClientResult};
 use pgw_client::session::run_session;
 use pgw_config::config::Config;
 use pgw_link::dialer::{DialError, Dialer};
-use pgw_prog_printing::session_text::put_result;
+use pgw_prog_sessions::session_text::put_result;
 use pgw_session::types::SessionReport;
 use pgw_types::address::Address;
 use pgw_types::memory::OutOfMemory;

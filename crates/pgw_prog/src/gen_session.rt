@@ -1,6 +1,6 @@
 //! A session of any size over a link, its rows told shortly.
 ghost use Rattle.std.specs.Prelude.{◌≡◌, ◌<◌, ◌^◌, length, IfOk};
-ghost use Rattle.pgw_prog_generate.specs.Summary.{gen_config, gen_query, report_rows};
+ghost use Rattle.pgw_prog_sessions.specs.Summary.{gen_config, gen_query, report_rows};
 ghost use Rattle.pgw_prog.specs.GenSession.{OverLinkShortly, TellsSummary};
 ghost use Rattle.pgw_client.specs.OverLink.{link_span};
 
@@ -8,7 +8,7 @@ use pgw_backend::client_error::PgWireClientResult;
 use pgw_client::session::run_session;
 use pgw_config::config::Config;
 use pgw_link::link::Link;
-use pgw_prog_generate::summary::{GenSummary, summary_of};
+use pgw_prog_sessions::summary::{GenSummary, summary_of};
 use pgw_session::types::{Request, SessionReport};
 use pgw_types::memory::OutOfMemory;
 use std::alloc::Global;

@@ -1,6 +1,6 @@
 //! A session of any size, made from a number.
 ghost use Rattle.std.specs.Prelude.{◌≡◌, ◌<◌, ◌^◌, ◌++◌, ℕ, OnOk, IfOk};
-ghost use Rattle.pgw_prog_generate.specs.Stream.{IsStream};
+ghost use Rattle.pgw_prog_sessions.specs.Stream.{IsStream};
 ghost use Rattle.pgw_prog.specs.GenSession.{GivesSummary};
 ghost use Rattle.pgw_prog.specs.Generated.{SaysGen, stream_summary, summary_text};
 ghost use Rattle.pgw_prog.specs.Held.{Says};
@@ -9,9 +9,9 @@ use crate::gen_session::gen_session;
 use crate::printed::Printed;
 use pgw_backend::client_error::{PgWireClientError, PgWireClientResult};
 use pgw_link::memory::MemoryLink;
-use pgw_prog_generate::stream::stream;
-use pgw_prog_generate::summary::GenSummary;
-use pgw_prog_printing::pieces::{put, put_decimal, put_hex};
+use pgw_prog_sessions::pieces::{put, put_decimal, put_hex};
+use pgw_prog_sessions::stream::stream;
+use pgw_prog_sessions::summary::GenSummary;
 use pgw_types::listed::Listed;
 use pgw_types::memory::OutOfMemory;
 use pgw_types::octets::Octets;

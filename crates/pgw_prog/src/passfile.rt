@@ -11,7 +11,7 @@ use crate::program::Stop;
 use crate::told::told;
 use crate::transfer::{ReadFault, read_whole};
 use pgw_link::stream::Source;
-use pgw_prog_printing::pieces::{put, put_hex};
+use pgw_prog_sessions::pieces::{put, put_hex};
 use pgw_secrets::password_file::PasswordFile;
 use pgw_types::memory::OutOfMemory;
 use pgw_types::octets::Octets;

@@ -1,7 +1,7 @@
 //! The pool of a pool script.
 ghost use Rattle.std.specs.Prelude.{◌<◌, ◌++◌, IfOk, codes, decimal};
-ghost use Rattle.pgw_prog_printing.specs.Pieces.{line_end};
-ghost use Rattle.pgw_prog_printing.specs.SessionText.{error_line};
+ghost use Rattle.pgw_prog_sessions.specs.Pieces.{line_end};
+ghost use Rattle.pgw_prog_sessions.specs.SessionText.{error_line};
 ghost use Rattle.pgw_prog.specs.Held.{Says};
 ghost use Rattle.pgw_prog.specs.Pool.{pool_text, pool_status, PrintsPool};
 
@@ -9,9 +9,9 @@ use crate::printed::Printed;
 use crate::told::{told_of_pool_line, told_of_refusal};
 use pgw_backend::client_error::PgWireClientError;
 use pgw_prog_pool::run::{PoolOutcome, run_pool};
-use pgw_prog_printing::pieces::{put, put_decimal};
-use pgw_prog_printing::session_text::put_error;
 use pgw_prog_script::pool_script::PoolScript;
+use pgw_prog_sessions::pieces::{put, put_decimal};
+use pgw_prog_sessions::session_text::put_error;
 use pgw_types::memory::OutOfMemory;
 use std::alloc::Global;
 

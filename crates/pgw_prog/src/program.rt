@@ -32,12 +32,12 @@ use crate::told::{
 use crate::transfer::{ReadFault, read_whole, write_whole};
 use pgw_link::dialer::Dialer;
 use pgw_link::stream::{Sink, Source};
-use pgw_prog_printing::pieces::{put, put_decimal};
 use pgw_prog_script::lines::ScriptFault;
 use pgw_prog_script::pair_script::parse_pair;
 use pgw_prog_script::pool_script::parse_pool;
 use pgw_prog_script::relay_script::parse_relay;
 use pgw_prog_script::script::parse;
+use pgw_prog_sessions::pieces::{put, put_decimal};
 use pgw_types::memory::OutOfMemory;
 use std::alloc::Global;
 use std::mem::forget;

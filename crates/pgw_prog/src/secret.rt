@@ -1,11 +1,11 @@
 //! The stored secret of a password.
 ghost use Rattle.std.specs.Prelude.{◌≤◌, ◌++◌, IfOk};
 ghost use Rattle.pgw_prog.specs.Held.{Says};
-ghost use Rattle.pgw_prog_printing.specs.Pieces.{line_end};
+ghost use Rattle.pgw_prog_sessions.specs.Pieces.{line_end};
 ghost use Rattle.pgw_prog.specs.Secret.{SaysSecret};
 
 use crate::printed::Printed;
-use pgw_prog_printing::pieces::put;
+use pgw_prog_sessions::pieces::put;
 use pgw_secrets::secret::StoredSecret;
 use pgw_types::memory::OutOfMemory;
 use std::alloc::Global;

@@ -2,3 +2,8 @@ pub mod CsvLaws
 pub mod PrinterLaws
 pub mod ReadBackLaws
 pub mod RowLaws
+pub mod AnswerLaws
+pub mod AskingLaws
+pub mod HearingLaws
+pub mod PageLaws
+pub mod WrittenLaws

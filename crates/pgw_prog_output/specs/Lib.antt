@@ -6,3 +6,10 @@ pub mod Printing
 pub mod ReadBack
 pub mod Shown
 pub mod TableLines
+pub mod Answers
+pub mod Asking
+pub mod Halting
+pub mod Lines
+pub mod Pages
+pub mod Said
+pub mod Written

@@ -26,8 +26,8 @@ use Rattle.pgw_pool.specs.Histories.{View}
 use Rattle.pgw_pool.specs.Returning.{GivesForetold}
 use Rattle.pgw_prog_script.specs.declared.pool_line.PoolCall.{PoolCall}
 use Rattle.pgw_prog_script.specs.declared.pool_line.PoolCall.TheVariants as call
-use Rattle.pgw_prog_printing.specs.AnswerLines.{answer_lines}
-use Rattle.pgw_prog_printing.specs.SessionText.{error_line}
+use Rattle.pgw_prog_sessions.specs.AnswerLines.{answer_lines}
+use Rattle.pgw_prog_sessions.specs.SessionText.{error_line}
 use Rattle.pgw_prog_pool.specs.Lines.{lease_line, none_line, returned_line, wants_memory, was_wanting}
 use Rattle.pgw_prog_pool.specs.Standing.{ScriptLease, lease_place, PoolStanding, standing_in_pool, RunsScriptLease, TellsPoolLines, answered, refused, PrintsPoolCall, lends, lends_none, runs, gives_back, IsNotOut, Calls, no_call, call_more, AllBack, none_out, back_first}
 use Rattle.pgw_prog_pool.specs.Views.{seat_place, pool_standing, to_come, HasRoom, PrintsRun, PrintsCall, Printed}

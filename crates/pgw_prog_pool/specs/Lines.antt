@@ -8,7 +8,7 @@ use Rattle.pgw_pool.specs.declared.returned.Returned.{Returned}
 use Rattle.pgw_pool.specs.declared.returned.Returned.TheVariants.{Kept, Dropped}
 use Rattle.pgw_pool.specs.declared.returned.DropCause.{DropCause}
 use Rattle.pgw_pool.specs.declared.returned.DropCause.TheVariants as cause
-use Rattle.pgw_prog_printing.specs.Pieces.{line_end}
+use Rattle.pgw_prog_sessions.specs.Pieces.{line_end}
 
 -- lease N
 unfoldable pub lease_line : ℕ → List ℕ

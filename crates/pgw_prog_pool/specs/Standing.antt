@@ -15,8 +15,8 @@ use Rattle.pgw_pool.specs.Lending.{Lends, LendsNone}
 use Rattle.pgw_pool.specs.Returning.{GivesForetold}
 use Rattle.pgw_prog_script.specs.declared.pool_line.PoolCall.{PoolCall}
 use Rattle.pgw_prog_script.specs.declared.pool_line.PoolCall.TheVariants as call
-use Rattle.pgw_prog_printing.specs.AnswerLines.{answer_lines}
-use Rattle.pgw_prog_printing.specs.SessionText.{error_line}
+use Rattle.pgw_prog_sessions.specs.AnswerLines.{answer_lines}
+use Rattle.pgw_prog_sessions.specs.SessionText.{error_line}
 use Rattle.pgw_prog_pool.specs.Lines.{lease_line, none_line, returned_line, wants_memory, was_wanting}
 
 -- a lease that is out: its number, its session, what its link still has to come, and how many requests were answered in it

@@ -1,18 +1,18 @@
 //! The calls of a pool script, one by one.
 ghost use Rattle.std.specs.Prelude.{◌≡◌, ◌<◌, ◌++◌, [], length, slice_index_or, map, IfOk, OnOk, MatchOption, true, false};
 ghost use Rattle.pgw_prog_script.specs.declared.pool_line.PoolCall.TheVariants as call;
-ghost use Rattle.pgw_prog_printing.specs.AnswerLines.{answer_lines};
-ghost use Rattle.pgw_prog_printing.specs.SessionText.{error_line};
+ghost use Rattle.pgw_prog_sessions.specs.AnswerLines.{answer_lines};
+ghost use Rattle.pgw_prog_sessions.specs.SessionText.{error_line};
 ghost use Rattle.pgw_prog_pool.specs.Lines.{lease_line, none_line, cause_name, returned_line, wants_memory as wants, was_wanting as wanting};
 ghost use Rattle.pgw_prog_pool.specs.Standing.{AllBack, IsNotOut};
 ghost use Rattle.pgw_prog_pool.specs.Views.{seat_place as place_for, pool_standing, HasRoom, PrintsRun, PrintsCall};
 
 use pgw_client::{Answer, MemoryLink, OutOfMemory, PgWireClientError, Request};
 use pgw_pool::{DropCause, Lease, LendError, Pool, Returned};
-use pgw_prog_printing::answer_lines::put_answer;
-use pgw_prog_printing::pieces::{put, put_decimal};
-use pgw_prog_printing::session_text::put_error;
 use pgw_prog_script::pool_script::PoolCall;
+use pgw_prog_sessions::answer_lines::put_answer;
+use pgw_prog_sessions::pieces::{put, put_decimal};
+use pgw_prog_sessions::session_text::put_error;
 
 /// A lease that is out, and how many requests were answered in it.
 pub struct Seat {

@@ -1,7 +1,9 @@
-//! Tests of the program over a socket, of the large input from a number and of its session. The cases of `hothummei_cases` test all
-//! else.
+//! Tests of the program over a socket, of the large input from a number and of its session, and of the commands `check` and
+//! `query`. The cases of `hothummei_cases` test all else.
 #![tactic(auto)]
 
+#[cfg(test)]
+mod commands;
 #[cfg(test)]
 mod nonces;
 #[cfg(test)]

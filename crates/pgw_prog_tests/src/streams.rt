@@ -1,6 +1,6 @@
 //! The stream from a number.
 
-use pgw_prog_generate::stream::stream;
+use pgw_prog_sessions::stream::stream;
 use std::alloc::Global;
 use std::test::Fail;
 

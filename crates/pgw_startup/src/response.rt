@@ -17,7 +17,7 @@ use pgw_wire::writer::Writer;
 use std::alloc::Global;
 
 /// Whether the server goes on under the encryption that was asked for: the one byte that answers an SSLRequest or a
-/// GSSENCRequest. ACCEPT is the byte that accepts, and is not `N`, which refuses.
+/// GSSENCRequest. ACCEPT is the byte that accepts, and is to be another than `N`, which refuses.
 #[derive(Clone, Copy, Debug, PartialEq, Eq)]
 pub enum EncryptionResponse<const ACCEPT: u8> {
     Accept,

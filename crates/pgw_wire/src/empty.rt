@@ -79,7 +79,7 @@ impl<const TYPE: u8> Duplicate for EmptyRequest<TYPE> {
     }
 }
 
-/// A message without a body that a server alone sends.
+/// A message without a body that only a server sends.
 #[derive(Clone, Copy, Debug, PartialEq, Eq)]
 pub struct EmptyResponse<const TYPE: u8>;
 

@@ -1,6 +1,6 @@
 use Rattle.std.proofs.Common.{rules, refl}
 use Rattle.std.proofs.lemmas.Result.{err_from_is_err_and}
-use Rattle.pgw_prog_generate.specs.Summary.{gen_input}
+use Rattle.pgw_prog_sessions.specs.Summary.{gen_input}
 use Rattle.pgw_prog.proofs.OverLaws.{nothing_held, wanting}
 use Rattle.pgw_prog.proofs.RowCounts.{rows_counted}
 use Rattle.pgw_prog.proofs.gen_session.gen_session.Goals as goal

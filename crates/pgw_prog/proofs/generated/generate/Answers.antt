@@ -1,5 +1,5 @@
 use Rattle.std.proofs.Common.{ℕ, List, subst, sym, arith}
-use Rattle.pgw_prog_generate.specs.Stream.{IsStream}
+use Rattle.pgw_prog_sessions.specs.Stream.{IsStream}
 use Rattle.pgw_prog.proofs.GenLaws.{stream_says}
 use Rattle.pgw_prog.proofs.generated.generate.Goals as goal
 

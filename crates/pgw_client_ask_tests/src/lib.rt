@@ -1,7 +1,0 @@
-//! Tests of asking one request, and of looking up columns.
-#![tactic(auto)]
-
-#[cfg(test)]
-mod asking;
-#[cfg(test)]
-mod columns;

@@ -1,0 +1,3 @@
+//! Tests of the example that asks a list of questions.
+
+mod asking;

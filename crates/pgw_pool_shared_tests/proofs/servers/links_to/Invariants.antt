@@ -1,6 +1,0 @@
-use Rattle.std.specs.Prelude.{All}
-use Rattle.pgw_link.specs.MemoryLinks.{IsUnused}
-use Rattle.pgw_pool_shared_tests.proofs.servers.links_to.Given as goal
-
-abbrev pub invariant-loop-said : goal.invariant-loop-said
-invariant-loop-said l = All IsUnused l.links

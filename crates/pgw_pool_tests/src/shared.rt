@@ -1,0 +1,6 @@
+//! Tests of a pool that threads share.
+
+mod many;
+mod order;
+mod places;
+mod servers;

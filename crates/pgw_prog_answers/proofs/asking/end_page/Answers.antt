@@ -1,5 +1,0 @@
-use Rattle.pgw_prog_answers.specs.Halting.{part}
-use Rattle.pgw_prog_answers.proofs.asking.end_page.Goals as goal
-
-pub returns-in-Err : goal.returns-in-Err
-returns-in-Err g c = part c.in-Err.stop c.requires c.in-Err.ensures.front c.in-Err.ensures.cause c.end_by.ensures

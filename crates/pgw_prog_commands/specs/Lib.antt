@@ -1,0 +1,13 @@
+pub mod Help
+pub mod Options
+pub mod Parting
+pub mod Words
+pub mod Query
+pub mod Talking
+pub mod Check
+pub mod Report
+pub mod Notes
+pub mod Targets
+pub mod Fitting
+pub mod Telling
+pub mod Places

@@ -1,3 +1,0 @@
-pub mod SummaryLaws
-pub mod StreamLaws
-pub mod CompletionLaws

@@ -1,7 +1,0 @@
-use Rattle.std.proofs.Common.{◌≡◌, take}
-use Rattle.std.specs.List.{flat_map}
-use Rattle.pgw_prog_printing.specs.Pieces.{quoted_byte}
-use Rattle.pgw_prog_printing.proofs.pieces.are_plain.Given as goal
-
-abbrev pub invariant-loop-byte : goal.invariant-loop-byte
-invariant-loop-byte l = flat_map quoted_byte (take l.byte-index l.bytes) ≡ take l.byte-index l.bytes

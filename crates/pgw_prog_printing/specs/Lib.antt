@@ -1,4 +1,0 @@
-pub mod AnswerLines
-pub mod Pieces
-pub mod ErrorNames
-pub mod SessionText

@@ -1,2 +1,0 @@
-pub mod QueryLaws
-pub mod TalkingLaws

@@ -1,0 +1,4 @@
+mod PieceLaws
+pub mod SummaryLaws
+pub mod StreamLaws
+pub mod CompletionLaws

@@ -1,0 +1,7 @@
+use Rattle.std.proofs.Common.{◌≡◌, take}
+use Rattle.std.specs.List.{flat_map}
+use Rattle.pgw_prog_sessions.specs.Pieces.{quoted_byte}
+use Rattle.pgw_prog_sessions.proofs.pieces.are_plain.Given as goal
+
+abbrev pub invariant-loop-byte : goal.invariant-loop-byte
+invariant-loop-byte l = flat_map quoted_byte (take l.byte-index l.bytes) ≡ take l.byte-index l.bytes

@@ -1,4 +1,0 @@
-pub mod Help
-pub mod Options
-pub mod Parting
-pub mod Words
