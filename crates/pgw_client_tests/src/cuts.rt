@@ -96,10 +96,15 @@ fn requests_of(alloc: Global, case: &Case<'_>) -> Result<Vec<Request>, OutOfMemo
     Ok(requests)
 }
 
-fn config_of(alloc: Global, case: &Case<'_>) -> PgWireClientResult<Config> {
-    let mut config = Config::parse(alloc, "user=bob")?;
+fn config_of(alloc: Global, case: &Case<'_>) -> PgWireClientResult<Box<Config>> {
+    let config = Config::parse(alloc, "user=bob")?;
+    let mut config = boxed(alloc, config)?;
     config.protocol_version(case.version);
     Ok(config)
+}
+
+fn boxed(alloc: Global, config: Config) -> Result<Box<Config>, OutOfMemory> {
+    Ok(Box::new(alloc, config)?)
 }
 
 fn report_by(

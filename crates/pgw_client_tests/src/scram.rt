@@ -16,8 +16,8 @@ pub const HONEST: &[u8] =
 const FORGED: &[u8] =
     b"R\0\0\0\x17\0\0\0\x0aSCRAM-SHA-256\0\0R\0\0\0\x4a\0\0\0\x0br=AAAAAAAAAAAAAAAAAAAAAAAAserver,s=W22ZaJ0SNY7soEsUEjb6gQ==,i=4096R\0\0\0\x0e\0\0\0\x0cv=AAAAR\0\0\0\x08\0\0\0\0Z\0\0\0\x05I";
 
-fn config_of(alloc: Global, password: &[u8]) -> Result<Config, OutOfMemory> {
-    let mut config = Config::new(alloc);
+fn config_of(alloc: Global, password: &[u8]) -> Result<Box<Config>, OutOfMemory> {
+    let mut config = Box::new(alloc, Config::new(alloc))?;
     config.set_user(alloc, "bob")?;
     config.set_password(alloc, password)?;
     Ok(config)
@@ -119,7 +119,7 @@ fn bound_config(
     password: &[u8],
     has_hash: bool,
     mode: ChannelBinding,
-) -> Result<Config, OutOfMemory> {
+) -> Result<Box<Config>, OutOfMemory> {
     let mut config = config_of(alloc, password)?;
     config.channel_binding = mode;
     if has_hash {

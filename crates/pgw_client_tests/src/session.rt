@@ -11,12 +11,20 @@ use std::alloc::Global;
 use std::process::Abort;
 use std::test::Fail;
 
-/// A link to a server that says this, which moves at most so many bytes at a time.
-pub fn link_of(alloc: Global, server: &[u8], cut: usize) -> Result<MemoryLink, OutOfMemory>
+/// A link to a server that says this, which moves at most so many bytes at a time. It is in a box, as is each large value
+/// here: what a function owns by itself is what makes its proof dear.
+pub fn link_of(alloc: Global, server: &[u8], cut: usize) -> Result<Box<MemoryLink>, OutOfMemory>
     requires { 0 < cut }
 {
     let server = Octets::from_slice(alloc, server)?;
-    Ok(MemoryLink::new(alloc, server, cut, Listed::new(alloc), Listed::new(alloc)))
+    let link = MemoryLink::new(alloc, server, cut, Listed::new(alloc), Listed::new(alloc));
+    Ok(Box::new(alloc, link)?)
+}
+
+/// A configuration by its connection text.
+pub fn config_by(alloc: Global, text: &str) -> Result<Box<Config>, Fail> {
+    let config = Config::parse(alloc, text)?;
+    Ok(Box::new(alloc, config)?)
 }
 
 /// A session over the link, with a nonce of zeros. It has no clause, since those of a session make what calls it dear.
@@ -90,7 +98,7 @@ fn check_by<R: Abort>(
     written: &[u8],
     answers: &[Mark],
 ) -> Result<(), Fail> {
-    let config = Config::parse(alloc, config)?;
+    let config = config_by(alloc, config)?;
     let compared = compare(rt, alloc, link, (&config, requests), written, answers);
     drop(config);
     compared
@@ -209,7 +217,7 @@ fn is_too_large(alloc: Global, link: &mut MemoryLink, config: &Config) -> bool {
 }
 
 fn check_large<R: Abort>(rt: &R, alloc: Global, link: &mut MemoryLink) -> Result<(), Fail> {
-    let config = Config::parse(alloc, "user=bob password=pencil")?;
+    let config = config_by(alloc, "user=bob password=pencil")?;
     let is_too_large = is_too_large(alloc, link, &config);
     drop(config);
     assert!(rt; is_too_large);
@@ -382,7 +390,7 @@ fn check_rows_asked<R: Abort>(
 }
 
 fn check_rows_over<R: Abort>(rt: &R, alloc: Global, link: &mut MemoryLink) -> Result<(), Fail> {
-    let config = Config::parse(alloc, "user=bob")?;
+    let config = config_by(alloc, "user=bob")?;
     let checked = check_rows_asked(rt, alloc, link, &config);
     drop(config);
     checked

@@ -1,7 +1,7 @@
 //! One session over each limit, each early end and each failing call.
 ghost use Rattle.std.specs.Prelude.{◌<◌};
 
-use crate::session::session;
+use crate::session::{config_by, session};
 use pgw_client::{
     Config, Listed, MemoryLink, Octets, OutOfMemory, PgWireClientError, PgWireClientResult,
     Request, SessionReport,
@@ -55,13 +55,14 @@ fn ending(answer: &PgWireClientResult<SessionReport>) -> &'static str {
     }
 }
 
-fn link_of(alloc: Global, setting: &Setting<'_>, cut: usize) -> Result<MemoryLink, OutOfMemory>
+fn link_of(alloc: Global, setting: &Setting<'_>, cut: usize) -> Result<Box<MemoryLink>, OutOfMemory>
     requires { 0 < cut }
 {
     let server = Octets::from_slice(alloc, setting.server)?;
     let failing_reads = one(alloc, setting.failing_read)?;
     let failing_writes = one(alloc, setting.failing_write)?;
-    Ok(MemoryLink::new(alloc, server, cut, failing_reads, failing_writes))
+    let link = MemoryLink::new(alloc, server, cut, failing_reads, failing_writes);
+    Ok(Box::new(alloc, link)?)
 }
 
 fn ending_of(
@@ -90,7 +91,7 @@ fn end_by(
 }
 
 fn end_over(alloc: Global, link: &mut MemoryLink, limit: u64) -> Result<&'static str, Fail> {
-    let config = Config::parse(alloc, "user=bob")?;
+    let config = config_by(alloc, "user=bob")?;
     let ended = end_by(alloc, link, &config, limit);
     drop(config);
     Ok(ended?)

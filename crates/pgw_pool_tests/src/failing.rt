@@ -2,7 +2,7 @@
 
 use crate::servers::{
     BOUND, DISCARDED, DONE, EMPTY, ERROR, FAILED, IDLE, Numbers, OPEN, SILENT, Server, Setting,
-    WELCOME, check_once, lease_once, new_config, new_request, new_setting, numbers, one, refilled,
+    WELCOME, boxed_pool, check_once, lease_once, new_config, new_request, new_setting, numbers, one, refilled,
 };
 use pgw_client::{Config, Listed, MemoryDialer, MemoryLink, Octets, PgWireClientResult, Request};
 use pgw_pool::Pool;
@@ -276,12 +276,11 @@ fn pool_of_one(
 }
 
 // One whose server ends behind the login, and whose link fails at the first read of a request.
-fn failing_pool(alloc: Global) -> Result<Pool<MemoryLink>, Fail> {
+fn failing_pool(alloc: Global) -> Result<Box<Pool<MemoryLink>>, Fail> {
     let config = new_config(alloc)?;
     let failing_reads = one(alloc, 16)?;
     let server = Octets::from_slice(alloc, b"R\0\0\0\x08\0\0\0\0Z\0\0\0\x05I")?;
-    let started = pool_of_one(alloc, &config, server, failing_reads);
-    Ok(started.ok().ok_or("no pool")?)
+    boxed_pool(alloc, pool_of_one(alloc, &config, server, failing_reads))
 }
 
 #[test]

@@ -134,7 +134,7 @@ fn start_name(started: &PgWireClientResult<Pool<MemoryLink>>) -> &'static str {
 fn start_of_two(alloc: Global, failing_dial: u64) -> Result<&'static str, Fail> {
     let config = new_config(alloc)?;
     let mut dialer = dialer_to(alloc, CUT, &[SILENT, SILENT], failing_dial)?;
-    let started = Pool::start(alloc, &config, &[[0; 18]; 2], 10_000, &mut dialer);
+    let started = Pool::start(alloc, &config, &[[0; 18]; 2], 10_000, &mut *dialer);
     let name = start_name(&started);
     drop(started);
     Ok(name)

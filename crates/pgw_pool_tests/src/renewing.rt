@@ -87,7 +87,7 @@ fn is_closed(setting: Setting) -> (bool, bool) {
         mut dialer,
         ..
     } = setting;
-    let is_closed = pool.close(&mut dialer).is_ok();
+    let is_closed = Box::into_inner(pool).close(&mut *dialer).is_ok();
     (is_closed, was_told(&dialer))
 }
 

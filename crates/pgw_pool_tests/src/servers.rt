@@ -91,9 +91,18 @@ pub(crate) fn dialer_to(
     cut: usize,
     servers: &[Server],
     failing_dial: u64,
-) -> Result<MemoryDialer, OutOfMemory> {
+) -> Result<Box<MemoryDialer>, OutOfMemory> {
     let dials = one(alloc, failing_dial)?;
-    Ok(MemoryDialer::new(links_to(alloc, cut, servers)?, dials))
+    let links = links_to(alloc, cut, servers)?;
+    Ok(Box::new(alloc, MemoryDialer::new(links, dials))?)
+}
+
+pub(crate) fn boxed_pool(
+    alloc: Global,
+    started: PgWireClientResult<Pool<MemoryLink>>,
+) -> Result<Box<Pool<MemoryLink>>, Fail> {
+    let pool = started.ok().ok_or("no pool")?;
+    Ok(Box::new(alloc, pool)?)
 }
 
 // A pool of a session with each server.
@@ -102,28 +111,31 @@ fn pool_over(
     config: &Config,
     cut: usize,
     servers: &[Server],
-) -> Result<Pool<MemoryLink>, Fail> {
+) -> Result<Box<Pool<MemoryLink>>, Fail> {
     let nonces = NONCES.get(..servers.len()).unwrap_or(NONCES);
     let mut dialer = dialer_to(alloc, cut, servers, 0)?;
-    let started = Pool::start(alloc, config, nonces, 10_000, &mut dialer);
-    Ok(started.ok().ok_or("no pool")?)
+    let started = Pool::start(alloc, config, nonces, 10_000, &mut *dialer);
+    boxed_pool(alloc, started)
 }
 
-pub(crate) fn new_config(alloc: Global) -> Result<Config, Fail> {
-    Ok(Config::parse(alloc, "user=bob host=a")?)
+pub(crate) fn new_config(alloc: Global) -> Result<Box<Config>, Fail> {
+    let config = Config::parse(alloc, "user=bob host=a")?;
+    Ok(Box::new(alloc, config)?)
 }
 
-pub(crate) fn new_request(alloc: Global) -> Result<Request, Fail> {
-    Ok(Request::simple(alloc, "SELECT 1")?)
+pub(crate) fn new_request(alloc: Global) -> Result<Box<Request>, Fail> {
+    let request = Request::simple(alloc, "SELECT 1")?;
+    Ok(Box::new(alloc, request)?)
 }
 
-// A pool, the dialer of what comes into it later, and what a test asks by which configuration.
+// A pool, the dialer of what comes into it later, and what a test asks by which configuration. Each
+// large value is in a box: what a function owns by itself is what makes its proof dear.
 #[derive(Drop)]
 pub(crate) struct Setting {
-    pub(crate) config: Config,
-    pub(crate) request: Request,
-    pub(crate) dialer: MemoryDialer,
-    pub(crate) pool: Pool<MemoryLink>,
+    pub(crate) config: Box<Config>,
+    pub(crate) request: Box<Request>,
+    pub(crate) dialer: Box<MemoryDialer>,
+    pub(crate) pool: Box<Pool<MemoryLink>>,
 }
 
 // A pool of a session with each server; and a dialer to the later ones, of whose dials this one

@@ -39,6 +39,10 @@ const ERROR: &[u8] = b"E\0\0\0\x19SERROR\0CXX000\0Mboom\0\0";
 
 const READY: &[u8] = b"Z\0\0\0\x05I";
 
+// What belongs to no Close, and the end of its cycle, in one piece: once the client has met the first message, its stream is
+// gone, and nothing more can be said.
+const BOUND_IN_PLACE: &[u8] = b"2\0\0\0\x04Z\0\0\0\x05I";
+
 // Sync, which a client sends.
 const SYNC: &[u8] = b"S\0\0\0\x04";
 
@@ -164,7 +168,7 @@ const CASES: &[Case] = &[
     Case {
         kind: Kind::ClosePortal,
         opening: b"C\0\0\0\x07Pp\0S\0\0\0\x04",
-        said: &[BOUND, READY],
+        said: &[BOUND_IN_PLACE],
         behind: b"",
         outcome: ("unexpected", 0, "broken"),
     },

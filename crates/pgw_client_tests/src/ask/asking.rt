@@ -177,7 +177,7 @@ fn asked(client: &mut Client, request: &Request) -> Outcome {
 }
 
 // A dialer of one link, to a server that says these pieces.
-fn dialer_to(alloc: Global, pieces: &[&[u8]]) -> Result<MemoryDialer, OutOfMemory> {
+fn dialer_to(alloc: Global, pieces: &[&[u8]]) -> Result<Box<MemoryDialer>, OutOfMemory> {
     let mut said = Vec::new(alloc);
     said.extend_from_slice(WELCOME)?;
     for piece in pieces {
@@ -186,15 +186,20 @@ fn dialer_to(alloc: Global, pieces: &[&[u8]]) -> Result<MemoryDialer, OutOfMemor
     let server = Octets::from_vec(said)?;
     let mut links = Listed::new(alloc);
     links.push(MemoryLink::new(alloc, server, 30, Listed::new(alloc), Listed::new(alloc)))?;
-    Ok(MemoryDialer::new(links, Listed::new(alloc)))
+    Ok(Box::new(alloc, MemoryDialer::new(links, Listed::new(alloc)))?)
 }
 
-fn connected(alloc: Global, pieces: &[&[u8]]) -> Result<Client, Fail> {
+fn connected_by(alloc: Global, dialer: &mut MemoryDialer) -> Result<Box<Client>, Fail> {
     let config = Config::parse(alloc, "user=bob host=a")?;
-    let mut dialer = dialer_to(alloc, pieces)?;
     let handler = DefaultStartupHandler::new([0; 18]);
-    let client = PgWireClient::connect(alloc, config, handler, &mut dialer, 10_000);
-    Ok(client.ok().ok_or("no client")?)
+    let client = PgWireClient::connect(alloc, config, handler, dialer, 10_000);
+    let client = client.ok().ok_or("no client")?;
+    Ok(Box::new(alloc, client)?)
+}
+
+fn connected(alloc: Global, pieces: &[&[u8]]) -> Result<Box<Client>, Fail> {
+    let mut dialer = dialer_to(alloc, pieces)?;
+    connected_by(alloc, &mut dialer)
 }
 
 fn outcome(alloc: Global, kind: &Kind, pieces: &[&[u8]]) -> Result<Outcome, Fail> {

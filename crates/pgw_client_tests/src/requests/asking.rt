@@ -173,7 +173,7 @@ fn dialer_to(
     alloc: Global,
     pieces: &[&[u8]],
     fail_reads: &[u64],
-) -> Result<MemoryDialer, OutOfMemory> {
+) -> Result<Box<MemoryDialer>, OutOfMemory> {
     let mut said = Vec::new(alloc);
     for piece in pieces {
         said.extend_from_slice(piece)?;
@@ -185,24 +185,15 @@ fn dialer_to(
     let server = Octets::from_slice(alloc, &said)?;
     let mut links = Listed::new(alloc);
     links.push(MemoryLink::new(alloc, server, 30, failing, Listed::new(alloc)))?;
-    Ok(MemoryDialer::new(links, Listed::new(alloc)))
+    Ok(Box::new(alloc, MemoryDialer::new(links, Listed::new(alloc)))?)
 }
 
-fn connected(alloc: Global, dialer: &mut MemoryDialer) -> Result<Option<Client>, Fail> {
+fn connected(alloc: Global, dialer: &mut MemoryDialer) -> Result<Box<Client>, Fail> {
     let config = Config::parse(alloc, "user=bob host=a")?;
     let handler = DefaultStartupHandler::new([0; 18]);
-    Ok(PgWireClient::connect(alloc, config, handler, dialer, 10_000).ok())
-}
-
-fn text_of(alloc: Global, client: Option<Client>) -> Result<String, Fail> {
-    match client {
-        Some(mut client) => {
-            let text = ask_twice(alloc, &mut client);
-            drop(client);
-            text
-        }
-        None => Ok(String::new(alloc)),
-    }
+    let client = PgWireClient::connect(alloc, config, handler, dialer, 10_000);
+    let client = client.ok().ok_or("no client")?;
+    Ok(Box::new(alloc, client)?)
 }
 
 fn check<R: Abort>(
@@ -213,9 +204,8 @@ fn check<R: Abort>(
     wanted: &str,
 ) -> Result<(), Fail> {
     let mut dialer = dialer_to(alloc, server, fail_reads)?;
-    let client = connected(alloc, &mut dialer);
-    drop(dialer);
-    let text = text_of(alloc, client?)?;
+    let mut client = connected(alloc, &mut dialer)?;
+    let text = ask_twice(alloc, &mut client)?;
     assert_eq!(rt; text.as_str(), wanted);
     Ok(())
 }
@@ -243,14 +233,6 @@ fn check_sent<R: Abort>(rt: &R, alloc: Global, client: &mut Client) -> Result<()
 fn questions_are_sent(rt: HostRuntime) -> Result<(), Fail> {
     let alloc = rt.alloc();
     let mut dialer = dialer_to(alloc, CASES[0].0, &[])?;
-    let client = connected(alloc, &mut dialer);
-    drop(dialer);
-    match client? {
-        Some(mut client) => {
-            let checked = check_sent(&rt, alloc, &mut client);
-            drop(client);
-            checked
-        }
-        None => Err(Fail::new(format_args!("no client"))),
-    }
+    let mut client = connected(alloc, &mut dialer)?;
+    check_sent(&rt, alloc, &mut client)
 }
