@@ -2,7 +2,8 @@
 
 use crate::servers::{
     BOUND, DISCARDED, DONE, EMPTY, ERROR, FAILED, IDLE, Numbers, OPEN, SILENT, Server, Setting,
-    WELCOME, boxed_pool, check_once, lease_once, new_config, new_request, new_setting, numbers, one, refilled,
+    WELCOME, boxed_pool, check_once, lease_once, new_config, new_request, new_setting, numbers,
+    one, refilled,
 };
 use pgw_client::{Config, Listed, MemoryDialer, MemoryLink, Octets, PgWireClientResult, Request};
 use pgw_pool::Pool;
