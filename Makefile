@@ -6,7 +6,8 @@
 # live: the program against a real PostgreSQL, in a scratch cluster (live/run).
 # lib: the C library, its header and its pkg-config file, in build/c; install puts them in place (docs/C.md). check-lib runs
 # it over bytes of servers that are written down (c/canned.c), under valgrind.
-# edits: all must-fail edits of a crate, as committed (make edits CRATE=pgw_query; without CRATE of all, which takes hours).
+# edits: the must-fail edits of a crate that the gate leaves out and .ci/tried does not have, as committed (make edits
+# CRATE=pgw_query; without CRATE those of all crates, which takes hours).
 # plant: wrong bodies that a crate's contracts let through (make plant CRATE=pgw_wire).
 SHELL = /bin/bash
 PROGRAM = crates/hothummei/out/hothummei

@@ -249,7 +249,7 @@ impl Config {
         self
     }
 
-    /// Seconds. It is kept, and has no effect: a `SocketDialer` has timeouts of its own.
+    /// Seconds. It limits `pgw_tokio::connect` and the commands `query` and `check`; a `SocketDialer` has timeouts of its own.
     pub fn connect_timeout(&mut self, seconds: u64) -> &mut Config
         ensures same { result.ghost_name ≡ self.entry.ghost_name }
         ensures set { result.now ≡ record self.old { connect_timeout = Some seconds } }
@@ -303,7 +303,7 @@ impl Config {
         self
     }
 
-    /// It is kept, and has no effect.
+    /// It has effect in the commands `query` and `check` alone.
     pub fn target_session_attrs(&mut self, attrs: TargetSessionAttrs) -> &mut Config
         ensures same { result.ghost_name ≡ self.entry.ghost_name }
         ensures set { result.now ≡ record self.old { target_session_attrs = attrs } }
